@@ -1,0 +1,6 @@
+pub mod HopLaws
+pub mod Hops
+pub mod Joined
+pub mod Names
+pub mod Print
+pub mod Value
