@@ -1,0 +1,5 @@
+pub mod Fits
+pub mod LawProofs
+pub mod SameLemmas
+pub mod TextLemmas
+pub mod Weighs
