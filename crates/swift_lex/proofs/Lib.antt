@@ -1,0 +1,12 @@
+pub mod BracketLemmas
+pub mod ByteRuns
+pub mod CharRuns
+pub mod HexRuns
+pub mod ItemLaws
+pub mod LexTurns
+pub mod NumberRuns
+pub mod NumberWords
+pub mod Places
+pub mod SignLemmas
+pub mod TokenWords
+pub mod WordLemmas
