@@ -1,0 +1,5 @@
+pub mod Walks
+pub mod Depths
+pub mod Cuts
+pub mod Prefixes
+pub mod Whole
