@@ -1,0 +1,8 @@
+use Rattle.std.proofs.Common.{◌≡◌, ◌-◌, [], codes, length}
+use Rattle.parse_base.specs.Parser.{many}
+use Rattle.parse_expr.specs.Tests.{begins_case}
+use Rattle.parse_expr.specs.Parse.{case_of, nested}
+use Rattle.parse_expr.proofs.expressions.Grammar.cases.Given as goal
+
+abbrev pub invariant-loop-turn : goal.invariant-loop-turn
+invariant-loop-turn g l = many begins_case (case_of l.self.total (nested l.self.total l.self.depth)) (length l.fn.tokens.rest.now) [] l.fn.tokens.rest.now ≡ many begins_case (case_of l.self.total (nested l.self.total l.self.depth)) (length l.fn.tokens.rest.now - l._turn) l.found l.tokens.rest.now
