@@ -1,0 +1,4 @@
+pub mod Views
+pub mod Stacks
+pub mod InTurn
+pub mod Slots
