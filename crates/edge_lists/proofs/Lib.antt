@@ -1,0 +1,14 @@
+pub mod Apart
+pub mod Numbers
+pub mod Links
+pub mod Heading
+pub mod Linking
+pub mod Closing
+pub mod Counting
+pub mod Dropping
+pub mod Memory
+pub mod Parting
+pub mod Sharing
+pub mod BlockValues
+pub mod Unlinking
+pub mod Walking
