@@ -1,0 +1,3 @@
+pub mod Joined
+pub mod Counter
+pub mod Moments
