@@ -1,0 +1,9 @@
+use Rattle.std.proofs.Common.{◌≡◌, ◌++◌, ℕ, List, ◌∙◌, subst, MatchOption}
+use Rattle.std.proofs.lemmas.Bool.Decides.{Decides-eqb}
+use Rattle.std.proofs.lemmas.Slice.Eq.{strip_prefix_is}
+use Rattle.counter_form.proofs.pieces.after_word.Goals as goal
+
+pub returns : goal.returns
+returns c = subst (λ (w : List ℕ). MatchOption c.strip_prefix.result ((rest : List ℕ) → c.args.bytes.now ≡ w ++ rest → ⊥) (λ rest. c.args.bytes.now ≡ w ++ rest.now))
+    (c.as_bytes.ensures.value ∙ c.word.ensures)
+    (strip_prefix_is Decides-eqb c.args.bytes.now c.as_bytes.result.now c.strip_prefix.result c.strip_prefix.ensures.cases)

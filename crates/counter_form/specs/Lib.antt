@@ -1,0 +1,4 @@
+pub mod Pieces
+pub mod App
+pub mod Script
+pub mod Faults
