@@ -1,0 +1,4 @@
+pub mod Playing
+pub mod Serving
+pub mod Telling
+pub mod Tabling

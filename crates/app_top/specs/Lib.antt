@@ -1,0 +1,5 @@
+pub mod Words
+pub mod Output
+pub mod Refusals
+pub mod Ends
+pub mod Table
