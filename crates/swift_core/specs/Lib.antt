@@ -1,0 +1,10 @@
+pub mod Types
+pub mod Context
+pub mod Values
+pub mod Operators
+pub mod Mentions
+pub mod Uses
+pub mod Codes
+pub mod Firsts
+pub mod Typing
+pub mod Programs
