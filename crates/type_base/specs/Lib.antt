@@ -1,0 +1,9 @@
+pub mod Claims
+pub mod Context
+pub mod Depth
+pub mod Innermosts
+pub mod Names
+pub mod Promotion
+pub mod Rules
+pub mod Scopes
+pub mod TypeNames
