@@ -1,0 +1,4 @@
+pub mod Turns
+pub mod Members
+pub mod Pieces
+pub mod Parts

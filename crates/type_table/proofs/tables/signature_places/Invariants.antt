@@ -1,0 +1,7 @@
+use Rattle.std.proofs.Common.{◌≡◌, take, map}
+use Rattle.type_table.specs.Along.{first_places}
+use Rattle.type_table.specs.Tables.{signature_name}
+use Rattle.type_table.proofs.tables.signature_places.Given as goal
+
+abbrev pub invariant-loop-at : goal.invariant-loop-at
+invariant-loop-at l = l.places ≡ first_places (map signature_name (take l.at l.members))

@@ -1,0 +1,4 @@
+pub mod Along
+pub mod Heads
+pub mod Signatures
+pub mod Tables
