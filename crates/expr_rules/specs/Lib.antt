@@ -1,0 +1,5 @@
+pub mod Checks
+pub mod Levels
+pub mod Ops
+pub mod OpsExact
+pub mod OpsSearch
