@@ -1,0 +1,4 @@
+pub mod Twice
+pub mod Held
+pub mod Deep
+pub mod Rounds
