@@ -1,0 +1,4 @@
+pub mod Turns
+pub mod Members
+pub mod Marking
+pub mod Least
