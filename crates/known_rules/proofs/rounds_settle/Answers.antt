@@ -1,0 +1,6 @@
+use Rattle.known_rules.specs.Known.{opens}
+use Rattle.known_rules.proofs.Settles.{settles}
+use Rattle.known_rules.proofs.rounds_settle.Goals as goal
+
+pub returns : goal.returns
+returns c = λ source table. settles (opens source) table

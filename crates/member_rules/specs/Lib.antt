@@ -1,0 +1,4 @@
+pub mod Shapes
+pub mod Members
+pub mod Search
+pub mod Laws
