@@ -1,0 +1,4 @@
+pub mod Contexts
+pub mod Levels
+pub mod Names
+pub mod Ops

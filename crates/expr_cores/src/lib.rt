@@ -1,0 +1,2 @@
+//! What the rules of expressions relate is well typed.
+#![tactic(auto)]

@@ -1,0 +1,5 @@
+pub mod Conditions
+pub mod Cases
+pub mod Flows
+pub mod Statements
+pub mod Laws
