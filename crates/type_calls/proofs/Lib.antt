@@ -1,0 +1,2 @@
+mod Fewer
+mod Turns
