@@ -6,5 +6,5 @@ ghost use Rattle.known_rules.specs.Known.{Settles};
 
 /// A law: after as many rounds as there are properties and keys without a written type, a round changes nothing.
 pub fn rounds_settle()
-    ensures { Settles }
+    ensures settled { Settles }
 {}

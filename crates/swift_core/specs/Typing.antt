@@ -1,6 +1,6 @@
 -- Well typed core terms: one constructor for each form. The context is that of the code, the locals are those that stand
 -- where the term is. Nothing is asked but what the meaning of the term needs.
-use Rattle.std.specs.Prelude.{◌≡◌, ℕ, ◌<◌, ◌⊎◌, Bool, true, false, ◌&&◌, ◌||◌, not, List, [], ◌∷◌, ◌++◌, length, map, Option, Some, None, slice_get, nat_lt, if◌then◌else◌}
+use Rattle.std.specs.Prelude.{◌≡◌, ℕ, ◌<◌, ◌⊎◌, Bool, true, false, ◌&&◌, ◌||◌, not, List, [], ◌∷◌, ◌++◌, length, take, map, Option, Some, None, slice_get, nat_lt, if◌then◌else◌}
 use Rattle.sv_value.specs.declared.value.Value.{Value, out-Value}
 use Rattle.sv_value.specs.declared.value.Value.TheOpen.{Value-F}
 use Rattle.value_calls.specs.declared.operators.Operator.{Operator}
@@ -411,11 +411,12 @@ mutual
 
 -- ---- blocks
 
--- This code of the member is written where these locals stand, and has parameters of these types.
+-- This code of the member is written where these locals stand, and has parameters of these types. What it keeps is judged by
+-- the blocks before it: those within it stand there.
 pub data IsBlock (cx : Context) (locals : List Local) : BlockId → List Ty → CodeForm → Type 0 where
   written_here : {b : BlockId} {c : Code} {parameters : List Ty}
       → slice_get cx.blocks b.number ≡ Some c → c.outer ≡ length locals → c.parameters ≡ length parameters
-      → c.kept ≡ locals_used cx.blocks c.outer c.form → IsBlock cx locals b parameters c.form
+      → c.kept ≡ locals_used (take b.number cx.blocks) c.outer c.form → IsBlock cx locals b parameters c.form
 
 -- the locals, and then those of parameters of these types
 abbrev pub with_parameters : List Local → List Ty → List Local

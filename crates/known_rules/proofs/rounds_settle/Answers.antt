@@ -3,4 +3,4 @@ use Rattle.known_rules.proofs.Settles.{settles}
 use Rattle.known_rules.proofs.rounds_settle.Goals as goal
 
 pub returns : goal.returns
-returns c = λ source table. settles (opens source) table
+returns c = record { settled = λ source table. settles (opens source) table }
