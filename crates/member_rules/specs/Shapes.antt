@@ -38,12 +38,13 @@ of_builder parameters items blocks = record { code = Some (code_of parameters (f
 abbrev pub inside : Table → Option ℕ → Stance → Context
 inside table owner s = record { table = table; owner = owner; stance = s; locals = []; floor = 0 }
 
--- what `self` is in the computed properties and functions of a declaration
+-- What `self` is in the computed properties, the functions and the builders of a declaration. The body of an app names no
+-- member of it.
 abbrev pub stance_of : Kind → Stance
 stance_of (kind.Data identifiable) = stance.Data
 stance_of (kind.Enum iterable cases) = stance.Data
 stance_of kind.View = stance.View
-stance_of kind.App = stance.View
+stance_of kind.App = stance.Initial
 stance_of (kind.Key key) = stance.Key
 
 -- and in a function that may be `mutating`

@@ -1,0 +1,4 @@
+pub mod Asked
+pub mod Parameters
+pub mod Members
+pub mod Laws
