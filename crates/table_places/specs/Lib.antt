@@ -1,0 +1,4 @@
+pub mod Apps
+pub mod Members
+pub mod Places
+pub mod Preferences
