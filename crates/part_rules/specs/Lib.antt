@@ -1,0 +1,5 @@
+pub mod Typed
+pub mod Checks
+pub mod Founds
+pub mod Writers
+pub mod Laws
