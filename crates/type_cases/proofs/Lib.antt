@@ -1,0 +1,4 @@
+pub mod KeyLaws
+pub mod PatternLaws
+pub mod Numbers
+pub mod Turns

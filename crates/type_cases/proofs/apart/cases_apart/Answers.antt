@@ -1,0 +1,12 @@
+use Rattle.std.specs.Ordering.{eq_by_cmp, nat_cmp}
+use Rattle.std.proofs.lemmas.Result.{IfOk-weaker}
+use Rattle.type_cases.proofs.KeyLaws.{IsDistinctAnswer, cases_apart}
+use Rattle.type_cases.proofs.apart.cases_apart.Goals as goal
+
+pub returns : goal.returns
+returns c =
+    record {
+      value = IfOk-weaker c.distinct.result (IsDistinctAnswer (eq_by_cmp nat_cmp) c.in_ok-keys.keys.items) _
+          (λ b h all. cases_apart c.args.declaration c.args.cases c.args.values.now c.in_ok-keys.keys.items c.in_ok-keys.ensures.value b h all)
+          c.distinct.ensures.value;
+    }
