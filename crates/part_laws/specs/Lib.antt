@@ -1,0 +1,10 @@
+pub mod Parts
+pub mod Things
+pub mod Cases
+pub mod Found
+pub mod Named
+pub mod Nils
+pub mod Members
+pub mod Writers
+pub mod Sizes
+pub mod Programs
