@@ -206,6 +206,13 @@ ended_by Continued = None
 ended_by (Returned o) = Some (Returned o)
 ended_by Broke = Some Next
 
+-- A `break` among the cases of a `switch` ends the `switch` alone.
+abbrev pub after_switch : Flow → Flow
+after_switch Next = Next
+after_switch (Returned o) = Returned o
+after_switch Broke = Next
+after_switch Continued = Continued
+
 abbrev pub unless_ended : Option Flow → Doing Flow → Doing Flow
 unless_ended None rest = rest
 unless_ended (Some flow) rest = give flow
@@ -515,7 +522,10 @@ module _ (i : Inside) where
   case_of v (c ∷ cs) = choose (matches v c.patterns) (scoped c.body) (case_of v cs)
 
   unfoldable pub selection : Core → List StmtCase → Doing Flow
-  selection e cs = i.eval e >>= λ v. case_of v cs
+  selection e cs = do
+    v ← i.eval e
+    flow ← case_of v cs
+    give (after_switch flow)
 
   -- a turn of a `while`: fuel is spent once its conditions hold
   unfoldable pub guarded_turn : List Condition → List CoreStmt → Doing (Option Flow)
