@@ -1,0 +1,9 @@
+pub mod Answers
+pub mod Cells
+pub mod Changes
+pub mod Fields
+pub mod Forms
+pub mod Lists
+pub mod Operators
+pub mod Patterns
+pub mod Reached
