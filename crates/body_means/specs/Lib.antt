@@ -1,0 +1,10 @@
+pub mod Elements
+pub mod Building
+pub mod Kept
+pub mod Each
+pub mod Customs
+pub mod Views
+pub mod Modified
+pub mod Items
+pub mod Bodies
+pub mod Law
