@@ -1,0 +1,10 @@
+pub mod Good
+pub mod Inside
+pub mod Mentions
+pub mod Blocks
+pub mod Callees
+pub mod Calls
+pub mod Exprs
+pub mod Makes
+pub mod Changes
+pub mod Stmts

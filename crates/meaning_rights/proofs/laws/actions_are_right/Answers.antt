@@ -1,0 +1,5 @@
+use Rattle.meaning_rights.specs.Laws.{actions_are_right as proof}
+use Rattle.meaning_rights.proofs.laws.actions_are_right.Goals as goal
+
+pub returns : goal.returns
+returns c = record { law = proof }

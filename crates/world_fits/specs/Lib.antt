@@ -1,0 +1,10 @@
+pub mod Frames
+pub mod Sites
+pub mod Right
+pub mod Lists
+pub mod Locals
+pub mod Laws
+pub mod Cells
+pub mod Places
+pub mod Codes
+pub mod Runs
