@@ -42,7 +42,7 @@ pub value_kind : (table : Table) (d : ℕ) (v : Value) (declaration : Declaratio
 value_kind table d v declaration h at = go d (out-Value v) at (subst (λ (l : Ty-F Ty). HasValueAt table l (out-Value v)) (ty_view.outs-Named d) h)
   where
     go : (d : ℕ) (l : Value-F Value) → slice_get table.declarations d ≡ Some declaration → HasValueAt table (Ty-F.Named d) l → itself_in declaration.kind ≡ Itself.a_value
-    go d l at (HasValueAt.made {names_identifiable = n} {declaration = other} there is fields) =
+    go d l at (HasValueAt.made {names_identifiable = n} {declaration = other} there is filled) =
         let same : other ≡ declaration = (let both : Some other ≡ Some declaration = sym there ∙ at in cc) in ap (λ (x : Declaration). itself_in x.kind) (sym same) ∙ ap itself_in is
     go d l at (HasValueAt.case {cases = cases} {names_all = n} {declaration = other} there is below) =
         let same : other ≡ declaration = (let both : Some other ≡ Some declaration = sym there ∙ at in cc) in ap (λ (x : Declaration). itself_in x.kind) (sym same) ∙ ap itself_in is
@@ -74,10 +74,10 @@ pub record Function (table : Table) (d : ℕ) (k : Kind) (m : CoreMember) (mutat
 
 module _ (table : Table) (d : ℕ) (k : Kind) (m : CoreMember) where
   computed_function : (t : Ty) → FitsSignature table d k m (form.Computed (Some t)) → Function table d k m false [] (Some t)
-  computed_function t (FitsSignature.computed_value {c = c} main gives) = record { of = c; types = []; typed = refl; main = main_of m [] c main; gives = GivesResult.with_value gives }
+  computed_function t (FitsSignature.computed_value {c = c} begins gives) = record { of = c; types = []; typed = refl; main = main_of m [] c begins; gives = GivesResult.with_value gives }
 
   plain_function : (ps : List ParamSignature) (result : Option Ty) (mutating : Bool) → FitsSignature table d k m (form.Function ps result mutating) → Function table d k m mutating ps result
-  plain_function ps result mutating (FitsSignature.function_body {ts = ts} {c = c} typed main gives) = record { of = c; types = ts; typed = typed; main = main_of m ts c main; gives = gives }
+  plain_function ps result mutating (FitsSignature.function_body {ts = ts} {c = c} typed begins gives) = record { of = c; types = ts; typed = typed; main = main_of m ts c begins; gives = gives }
 
   pub function_of : (s : Signature) (mutating : Bool) (ps : List ParamSignature) (result : Option Ty) → FitsSignature table d k m s.form → Uses s mutating ps result → Function table d k m mutating ps result
   function_of s mutating ps result fits (Uses.computed {t = t} e) = computed_function t (subst (FitsSignature table d k m) e fits)
@@ -90,10 +90,10 @@ module _ (table : Table) (d : ℕ) (k : Kind) (m : CoreMember) where
     pub gives : GivesValue (member_context table d Itself.no_self m) [] of t
 
   pub static_of : (t : Ty) → FitsSignature table d k m (form.Static (Some t)) → Constant t
-  static_of t (FitsSignature.static_value {c = c} main gives) = record { of = c; main = main_of m [] c main; gives = gives }
+  static_of t (FitsSignature.static_value {c = c} begins gives) = record { of = c; main = main_of m [] c begins; gives = gives }
 
   initial_constant : (t : Ty) (a : Argument) → initial_of a ≡ Some initial.Written → HasInitial (member_context table d Itself.no_self m) m t a → Constant t
-  initial_constant t a e (HasInitial.initial_written {c = c} w main h) = record { of = _; main = main_of m [] _ main; gives = GivesValue.by_term h }
+  initial_constant t a e (HasInitial.initial_written {c = c} w begins h) = record { of = _; main = main_of m [] _ begins; gives = GivesValue.by_term h }
   initial_constant t a e (HasInitial.initial_nil w i none) = absurd (cc (e, w))
   initial_constant t a e (HasInitial.no_initial w none) = absurd (cc (e, w))
 

@@ -57,7 +57,7 @@ module _ (site : Site) (known : Known site) (i : Inside) (r : Rights site i) (sc
   -- ---- targets
 
   hop_good : (layer : HopForm) (t u : Ty) → Steps (context site sc) locals t layer u → MayDo site sc (hop_layer layer) → Good site sc locals (λ h. HopFits site.program.table t h u) (hop_at i layer)
-  hop_good layer t u (Steps.to_field {n = n} named member form) may = good_give site sc locals _ (hop.Field n) (HopFits.to_field (IsField.is_field named member form))
+  hop_good layer t u (Steps.to_field {n = n} named stands form) may = good_give site sc locals _ (hop.Field n) (HopFits.to_field (IsField.is_field named stands form))
   hop_good layer t u (Steps.to_element {c = c} e h) may =
       good_then site sc locals _ (i.eval c) (λ v. given (index_of v)) (r.eval sc locals c ty.Int h may)
       (λ v k. let x = known.laws.indexes site.program.table v k in

@@ -95,8 +95,8 @@ module _ (site : Site) (known : Known site) (i : Inside) (r : Rights site i) (sc
   form_good l t none (Has.promote e h) may = absurd none
   form_good l u none (Has.operate_one {op = op} {c = c} {t = t} h e) may = exprs.operand_good site known i r sc locals (one.Operate op) c t u (h, may) (λ v k. known.laws.unary site.program.table op t u v e k)
   form_good l t none (Has.force {c = c} {o = o} h e) may = exprs.operand_good site known i r sc locals one.Force c o t (h, may) (λ v k. known.laws.force site.program.table o t v e k)
-  form_good l u none (Has.field {c = c} {t = t} {n = n} h named member form) may =
-      exprs.operand_good site known i r sc locals (one.Field n) c t u (h, may) (λ v k. known.laws.field site.program.table (standing site known) t u n v (IsField.is_field named member form) k)
+  form_good l u none (Has.field {c = c} {t = t} {n = n} h named stands form) may =
+      exprs.operand_good site known i r sc locals (one.Field n) c t u (h, may) (λ v k. known.laws.field site.program.table (standing site known) t u n v (IsField.is_field named stands form) k)
   form_good l u none (Has.property {p = p} {c = c} {t = t} h e) may = exprs.operand_good site known i r sc locals (one.Look p) c t u (h, may) (λ v k. known.laws.property site.program.table p t u v e k)
   form_good l u none (Has.operate {op = op} {a = a} {b = b} {t = t} h k e) may =
       exprs.operands_good site known i r sc locals (two.Operate op) a b t t u (h, each_front (Allowed site sc) (core_mentions a) (core_mentions b) may) (k, each_back (Allowed site sc) (core_mentions a) (core_mentions b) may)

@@ -105,7 +105,7 @@ record Gives (table : Table) (itself : Itself) (owner : Option ℕ) (m : CoreMem
 
 initial_gives : (table : Table) (owner : Option ℕ) (m : CoreMember) (c : Code) (t : Ty) (a : Argument) → m.code ≡ Some c → HasInitial (record { table = table; owner = owner; itself = Itself.no_self; blocks = m.blocks }) m t a
     → Gives table Itself.no_self owner m []
-initial_gives table owner m c t a has (HasInitial.initial_written {c = e} w main h) = record { of = code.Value e; main = main_of m [] (code.Value e) main; answers = Answers.a_value (GivesValue.by_term h) }
+initial_gives table owner m c t a has (HasInitial.initial_written {c = e} w begins h) = record { of = code.Value e; main = main_of m [] (code.Value e) begins; answers = Answers.a_value (GivesValue.by_term h) }
 initial_gives table owner m c t a has (HasInitial.initial_nil w inside none) = absurd (cc (has, none))
 initial_gives table owner m c t a has (HasInitial.no_initial w none) = absurd (cc (has, none))
 
@@ -118,25 +118,25 @@ key_number n m e = cc
 
 function_gives : (table : Table) (d : ℕ) (m : CoreMember) (itself : Itself) (t : Ty) (ts us : List Ty) (c : CodeForm) → us ≡ ts → IsMain m us c
     → GivesResult (record { table = table; owner = Some d; itself = itself; blocks = m.blocks }) (map Local.valued us) c (Some t) → Gives table itself (Some d) m ts
-function_gives table d m itself t ts us c same main (GivesResult.with_value h) =
-    subst (Gives table itself (Some d) m) same (record { of = c; main = main_of m us c main; answers = Answers.a_value h })
+function_gives table d m itself t ts us c same begins (GivesResult.with_value h) =
+    subst (Gives table itself (Some d) m) same (record { of = c; main = main_of m us c begins; answers = Answers.a_value h })
 
 member_gives : (table : Table) (d : ℕ) (k : Kind) (m : CoreMember) (c : Code) (f : SignatureForm) (itself : Itself) (ts : List Ty) → m.code ≡ Some c → GivesValueWith table k f itself ts → FitsSignature table d k m f
     → Gives table itself (Some d) m ts
-member_gives table d k m c f itself ts has (GivesValueWith.initial_of_stored) (FitsSignature.stored {t = t} {a = a} h) = initial_gives table (Some d) m c t a has h
-member_gives table d k m c f itself ts has (GivesValueWith.initial_of_state) (FitsSignature.state {t = t} {a = a} h) = initial_gives table (Some d) m c t a has h
-member_gives table d k m c f itself ts has (GivesValueWith.of_static) (FitsSignature.static_value {c = e} main h) = record { of = e; main = main_of m [] e main; answers = Answers.a_value h }
-member_gives table d k m c f itself ts has (GivesValueWith.of_computed) (FitsSignature.computed_value {c = e} main h) = record { of = e; main = main_of m [] e main; answers = Answers.a_value h }
-member_gives table d k m c f itself ts has (GivesValueWith.of_function {t = t} {mutating = mutating} typed) (FitsSignature.function_body {ts = us} {c = e} is main h) =
-    function_gives table d m (itself_in_function mutating k) t ts us e (same_types us ts (sym is ∙ typed)) main h
-member_gives table d k m c f itself ts has (GivesValueWith.of_reduce {n = n} {t = t} key pref) (FitsSignature.reduce {n = n'} {t = t'} {ss = ss} {f = flow} key' pref' main h) =
+member_gives table d k m c f _ ts has (GivesValueWith.initial_of_stored) (FitsSignature.stored {t = t} {a = a} h) = initial_gives table (Some d) m c t a has h
+member_gives table d k m c f _ ts has (GivesValueWith.initial_of_state) (FitsSignature.state {t = t} {a = a} h) = initial_gives table (Some d) m c t a has h
+member_gives table d k m c f _ ts has (GivesValueWith.of_static) (FitsSignature.static_value {c = e} begins h) = record { of = e; main = main_of m [] e begins; answers = Answers.a_value h }
+member_gives table d k m c f _ ts has (GivesValueWith.of_computed) (FitsSignature.computed_value {c = e} begins h) = record { of = e; main = main_of m [] e begins; answers = Answers.a_value h }
+member_gives table d k m c f _ ts has (GivesValueWith.of_function {t = t} {mutating = mutating} typed) (FitsSignature.function_body {ts = us} {c = e} is begins h) =
+    function_gives table d m (itself_in_function mutating k) t ts us e (same_types us ts (sym is ∙ typed)) begins h
+member_gives table d k m c f _ ts has (GivesValueWith.of_reduce {n = n} {t = t} key pref) (FitsSignature.reduce {n = n'} {t = t'} {ss = ss} {f = flow} key' pref' begins h) =
     let same_key : n' ≡ n = key_number n' n (sym key' ∙ key) in
     let same : t' ≡ t = preference_type table n t' t (subst (λ (x : ℕ). HasPreference table x t') same_key pref') pref in
     subst (λ (u : Ty). Gives table Itself.no_self (Some d) m (u ∷ u ∷ [])) same
-    (record { of = code.Statements ss; main = main_of m (t' ∷ t' ∷ []) (code.Statements ss) main; answers = Answers.first_local t' refl h })
+    (record { of = code.Statements ss; main = main_of m (t' ∷ t' ∷ []) (code.Statements ss) begins; answers = Answers.first_local t' refl h })
 
 key_gives : (table : Table) (n : ℕ) (m : CoreMember) → FitsKey table n m → Gives table Itself.no_self None m []
-key_gives table n m (FitsKey.default_value {c = e} at typed main h) = record { of = code.Value e; main = main_of m [] (code.Value e) main; answers = Answers.a_value (GivesValue.by_term h) }
+key_gives table n m (FitsKey.default_value {c = e} at typed begins h) = record { of = code.Value e; main = main_of m [] (code.Value e) begins; answers = Answers.a_value (GivesValue.by_term h) }
 
 -- what `self` is in code that is evaluated
 pub view_kind : (k : Kind) → itself_in k ≡ Itself.a_view → k ≡ kind.View
@@ -151,12 +151,12 @@ function_kind true k e = cc
 function_kind false k e = view_kind k e
 
 evaluated_kind : (table : Table) (k : Kind) (f : SignatureForm) (itself : Itself) (ts : List Ty) → GivesValueWith table k f itself ts → itself ≡ Itself.a_view → k ≡ kind.View
-evaluated_kind table k f itself ts (GivesValueWith.initial_of_stored) e = cc
-evaluated_kind table k f itself ts (GivesValueWith.initial_of_state) e = cc
-evaluated_kind table k f itself ts (GivesValueWith.of_static) e = cc
-evaluated_kind table k f itself ts (GivesValueWith.of_computed) e = view_kind k e
-evaluated_kind table k f itself ts (GivesValueWith.of_function {mutating = mutating} typed) e = function_kind mutating k e
-evaluated_kind table k f itself ts (GivesValueWith.of_reduce key pref) e = cc
+evaluated_kind table k f _ ts (GivesValueWith.initial_of_stored) e = cc
+evaluated_kind table k f _ ts (GivesValueWith.initial_of_state) e = cc
+evaluated_kind table k f _ ts (GivesValueWith.of_static) e = cc
+evaluated_kind table k f _ ts (GivesValueWith.of_computed) e = view_kind k e
+evaluated_kind table k f _ ts (GivesValueWith.of_function {mutating = mutating} typed) e = function_kind mutating k e
+evaluated_kind table k f _ ts (GivesValueWith.of_reduce key pref) e = cc
 
 -- the view whose frame it is
 abbrev pub view_of : Itself → Option ℕ → Option ℕ
@@ -205,7 +205,7 @@ module _ (p : Program) (program : IsProgram p.table p.members) where
           typed i place m.0 none m.1 (program.typed i place m.0 e m.1) at
 
   code_found : (n : ℕ) (itself : Itself) (owner : Option ℕ) (ts : List Ty) (c : Code) → IsEvaluated p.table n itself owner ts → code_at p n ≡ Some c → Found p n itself owner ts c
-  code_found n itself owner ts c (IsEvaluated.default_of_key k {key = key} at number) there = default_found n k c (subst (λ (x : ℕ). DefaultStands p.table x k) number (program.key_codes k key at)) there
+  code_found n _ owner ts c (IsEvaluated.default_of_key k {key = key} at number) there = default_found n k c (subst (λ (x : ℕ). DefaultStands p.table x k) number (program.key_codes k key at)) there
   code_found n itself owner ts c (IsEvaluated.code_of_member {d = d} {s = s} {declaration = declaration} declared has number gives) there =
       let m = member_of p.table p.members program d s has in
       let held = ap (slice_get p.members) (sym number) ∙ m.there in
@@ -219,7 +219,7 @@ module _ (p : Program) (program : IsProgram p.table p.members) where
       }
 
   own_itself : (site : Site) (n : ℕ) (itself : Itself) (owner : Option ℕ) (ts : List Ty) → site.program ≡ p → IsEvaluated p.table n itself owner ts → site.view ≡ view_of itself owner → is_value itself ≡ false → ItselfFits site itself owner None
-  own_itself site n itself owner ts is (IsEvaluated.default_of_key k at number) view no_value = tt
+  own_itself site n _ owner ts is (IsEvaluated.default_of_key k at number) view no_value = tt
   own_itself site n itself owner ts is (IsEvaluated.code_of_member {d = d} {s = s} {declaration = declaration} declared has number gives) view no_value =
       itself_fits site itself (Some d) None d declaration refl view (ap (λ (q : Program). slice_get q.table.declarations d) is ∙ declared) (evaluated_kind p.table declaration.kind s.form itself ts gives) no_value
 

@@ -35,12 +35,12 @@ module _ (site : Site) (known : Known site) where
   -- A frame of the view with cells of their types shows each source.
   pub frame_shows : (frame : Frame) (cells : CellMap) → ((d : ℕ) → site.view ≡ Some d → FrameHas site.program.table site.types d frame) → CellsFit site.program.table site.types cells
       → Shows site (seen frame cells)
-  frame_shows frame cells has fits s l (SourceHas.stored {d = d} {n = n} {b = b} {t = t} {a = a} {s = sign} view member form) =
-      let x = (has d view).stored sign n b t a member form in inr (x.0, ap found_input x.1, x.2)
-  frame_shows frame cells has fits s l (SourceHas.bound {d = d} {n = n} {t = t} {s = sign} view member form) =
-      let x = (has d view).bound sign n t member form in inr (x.0, ap found_input x.1, x.2)
-  frame_shows frame cells has fits s l (SourceHas.slot {d = d} {n = n} {t = t} {a = a} {s = sign} view member form) =
-      let x = fits frame.path n t ((has d view).slots sign n t a member form) in
+  frame_shows frame cells has fits s l (SourceHas.stored {d = d} {n = n} {b = b} {t = t} {a = a} {s = sign} view stands form) =
+      let x = (has d view).stored sign n b t a stands form in inr (x.0, ap found_input x.1, x.2)
+  frame_shows frame cells has fits s l (SourceHas.bound {d = d} {n = n} {t = t} {s = sign} view stands form) =
+      let x = (has d view).bound sign n t stands form in inr (x.0, ap found_input x.1, x.2)
+  frame_shows frame cells has fits s l (SourceHas.slot {d = d} {n = n} {t = t} {a = a} {s = sign} view stands form) =
+      let x = fits frame.path n t ((has d view).slots sign n t a stands form) in
       inr (input.Value x.value, ap (λ (o : Option (List Value)). found_part (option_and_then (part_at []) (option_and_then (λ slots. slice_get slots n) o))) x.held ∙ ap (λ (o : Option Value). found_part (option_and_then (part_at []) o)) x.there, x.typed)
   frame_shows frame cells has fits s l (SourceHas.place {p = p} {t = t} h) = part_shows t (value_at cells p) (known.laws.cells_read site.program.table standing site.types cells p t fits h)
   frame_shows frame cells has fits s l (SourceHas.key {d = d} {k = k} {t = t} {key = key} view at typed) =

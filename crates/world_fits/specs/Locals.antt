@@ -89,8 +89,8 @@ module _ (site : Site) where
   -- ---- worlds
 
   pub no_places : (itself : Itself) (ts : List Ty) → MayPlace site itself (map Local.valued ts)
-  no_places itself [] i t e = cc
-  no_places itself (u ∷ ts) zero t e = absurd (valued_is (some_same (Local.valued u) (Local.placed t) e))
+  no_places _ [] i t e = cc
+  no_places _ (u ∷ ts) zero t e = absurd (valued_is (some_same (Local.valued u) (Local.placed t) e))
   no_places itself (u ∷ ts) (suc i) t e = no_places itself ts i t e
 
   one_place : (itself : Itself) (locals : List Local) (t : Ty) → MayPlace site itself locals → MayPlace site itself (locals ++ Local.valued t ∷ [])
