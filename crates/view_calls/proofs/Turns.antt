@@ -1,5 +1,5 @@
 -- Modifiers are read two parts at a time: the point with the name, and the call.
-use Rattle.std.proofs.Common.{◌≡◌, ◌≤◌, ◌-◌, List, [], ◌∷◌, length, get_or, take, drop, Option, Some, Result, sym, ap, subst, ◌∙◌, absurd, arith}
+use Rattle.std.proofs.Common.{◌≡◌, ◌≤◌, ◌-◌, List, [], ◌∷◌, length, get_or, take, drop, Option, Some, Result, sym, ap, subst, ◌∙◌, arith}
 use Rattle.std.proofs.lemmas.List.{take_rest}
 use Rattle.swift_ast.specs.declared.tree.Part.{Part}
 use Rattle.swift_core.specs.declared.item.ModifierCall.{ModifierCall}
