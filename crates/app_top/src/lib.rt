@@ -9,6 +9,3 @@ mod top;
 
 pub use end::Outcome;
 pub use top::run;
-
-#[cfg(test)]
-mod tests;

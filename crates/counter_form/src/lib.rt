@@ -7,6 +7,3 @@ mod script;
 
 pub use app::{FormFault, read_app};
 pub use script::read_script;
-
-#[cfg(test)]
-mod tests;

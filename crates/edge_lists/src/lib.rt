@@ -11,6 +11,3 @@ mod node;
 mod spare;
 
 pub use lists::{Edge, EdgeLists};
-
-#[cfg(test)]
-mod tests;

@@ -8,6 +8,3 @@ mod words;
 
 pub use event::{Event, ScriptFault};
 pub use script::read_script;
-
-#[cfg(test)]
-mod tests;

@@ -7,8 +7,6 @@ mod input;
 mod path;
 mod place;
 mod step;
-#[cfg(test)]
-mod tests;
 mod text;
 
 pub use cells::Cells;

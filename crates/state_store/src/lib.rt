@@ -3,8 +3,6 @@
 
 mod state;
 mod table;
-#[cfg(test)]
-mod tests;
 mod weigh;
 
 pub use state::{EnterStop, State};

@@ -3,8 +3,6 @@
 
 mod boxed;
 mod items;
-#[cfg(test)]
-mod tests;
 
 pub use boxed::Boxed;
 pub use items::Items;

@@ -5,8 +5,6 @@ mod copies;
 mod hop;
 mod names;
 mod print;
-#[cfg(test)]
-mod tests;
 mod text;
 mod value;
 

@@ -11,8 +11,6 @@ mod names;
 mod numbers;
 mod place;
 mod signs;
-#[cfg(test)]
-mod tests;
 mod text;
 mod token;
 mod word;

@@ -7,8 +7,6 @@ mod integers;
 mod laws;
 mod made;
 mod operators;
-#[cfg(test)]
-mod tests;
 mod texts;
 mod traps;
 
