@@ -24,7 +24,7 @@ use Rattle.core_means.specs.Places.{field}
 use Rattle.view_nodes.specs.declared.kind.NodeKind.TheVariants as node
 use Rattle.view_nodes.specs.declared.node.Element.{Element}
 use Rattle.body_means.specs.Building.{Building, bound, views_from, push_input, with_hop}
-use Rattle.body_means.specs.Elements.{view, led}
+use Rattle.body_means.specs.Elements.{narrow, view, led}
 
 -- ---- what is gone over
 
@@ -62,7 +62,7 @@ pub record Item : Type 0 where
 
 -- An item stands under its id and the number of earlier items with an equal one.
 abbrev pub item_with : List Value → Value → Element → Item
-item_with ids id e = record { id = id; made = led (step.Item id (again id ids) ∷ []) e }
+item_with ids id e = record { id = id; made = led (step.Item id (narrow (again id ids)) ∷ []) e }
 
 -- ---- what is made of it
 

@@ -1,5 +1,5 @@
 -- The nodes of a description: where they stand, and how they are counted as they are made.
-use Rattle.std.specs.Prelude.{ℕ, ◌+◌, ℤ, List, [], ◌∷◌, ◌++◌, length, Option, Some, None, nat_lt}
+use Rattle.std.specs.Prelude.{ℕ, ◌+◌, ℤ, List, [], ◌∷◌, ◌++◌, length, min, Option, Some, None, nat_lt}
 use Rattle.identity_path.specs.declared.input.Input.{Input}
 use Rattle.identity_path.specs.declared.input.Input.TheVariants as input
 use Rattle.identity_path.specs.declared.step.Step.{Step}
@@ -21,6 +21,13 @@ use Rattle.view_nodes.specs.declared.node.Label.TheVariants as label
 use Rattle.view_nodes.specs.declared.node.Reader.{Reader}
 use Rattle.view_nodes.specs.Counts.{label_count, custom_count, reader_count}
 
+-- ---- numbers
+
+-- A number of a step or of a modifier has 32 bits: what is greater stays at the greatest. No description within the limit of 20,000
+-- nodes has so many views, items or modifiers, and no source so many branches.
+abbrev pub narrow : ℕ → ℕ
+narrow n = min n 4294967295
+
 -- ---- steps
 
 abbrev pub led_at : List Step → Element-F Element → Element
@@ -40,7 +47,7 @@ all_led steps (e ∷ es) = led steps e ∷ all_led steps es
 -- The i-th view of a builder has the step `Child i`. What gives no view, a `let`, is not counted.
 abbrev pub with_child : List Element → Option Element → List Element
 with_child views None = views
-with_child views (Some e) = views ++ led (step.Child (length views) ∷ []) e ∷ []
+with_child views (Some e) = views ++ led (step.Child (narrow (length views)) ∷ []) e ∷ []
 
 -- ---- counts
 

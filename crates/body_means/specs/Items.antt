@@ -19,7 +19,7 @@ use Rattle.view_nodes.specs.declared.kind.NodeKind.TheVariants as node
 use Rattle.view_nodes.specs.declared.node.Element.{Element}
 use Rattle.body_means.specs.Building.{Building, content, place_of, views_from}
 use Rattle.body_means.specs.Modified.{modifiers_from}
-use Rattle.body_means.specs.Elements.{all_led, view}
+use Rattle.body_means.specs.Elements.{all_led, narrow, view}
 use Rattle.body_means.specs.Views.{view_form}
 
 module _ (b : Building) where
@@ -31,7 +31,7 @@ module _ (b : Building) where
 
   -- The views of the k-th branch stand under its step.
   abbrev pub branch : ℕ → List Element → List Element
-  branch k views = all_led (step.Branch k ∷ []) views
+  branch k views = all_led (step.Branch (narrow k) ∷ []) views
 
   -- the views of the k-th branch, where its conditions hold
   unfoldable pub guarded : ℕ → List Condition → List CoreItem → Doing (Option (List Element))

@@ -24,7 +24,7 @@ use Rattle.view_nodes.specs.declared.node.Element.{Element}
 use Rattle.view_nodes.specs.Guides.{checked}
 use Rattle.body_means.specs.Building.{Building, content}
 use Rattle.body_means.specs.Kept.{block_at, captured_from, handler}
-use Rattle.body_means.specs.Elements.{led, all_led, modifier, reader}
+use Rattle.body_means.specs.Elements.{led, all_led, narrow, modifier, reader}
 use Rattle.body_means.specs.Views.{number}
 
 -- ---- what the arguments are
@@ -157,4 +157,4 @@ module _ (b : Building) where
   -- the modifiers of a view expression, from the inside
   unfoldable pub modifiers_from : Standing → List ModifierCall → Doing Element
   modifiers_from s [] = give s.wrapped
-  modifiers_from s (m ∷ ms) = one_modifier s m >>= λ e. modifiers_from (record { wrapped = e; number = s.number + 1; decoration = s.decoration + decorations_in m.kind }) ms
+  modifiers_from s (m ∷ ms) = one_modifier s m >>= λ e. modifiers_from (record { wrapped = e; number = narrow (s.number + 1); decoration = narrow (s.decoration + decorations_in m.kind) }) ms
