@@ -1,0 +1,5 @@
+pub mod Sound
+pub mod Safe
+pub mod Homes
+pub mod Terms
+pub mod Nodes

@@ -1,0 +1,3 @@
+pub mod Alters
+pub mod Lower
+pub mod Steps

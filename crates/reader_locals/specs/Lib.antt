@@ -1,0 +1,6 @@
+pub mod Alters
+pub mod AlterLayers
+pub mod ItemAlters
+pub mod Filled
+pub mod Terms
+pub mod Statements
