@@ -3,3 +3,4 @@ pub mod Output
 pub mod Refusals
 pub mod Ends
 pub mod Table
+pub mod Checking

@@ -24,7 +24,17 @@ pub enum AppRefusal {
     TooNested { line: u32 },
     /// A piece of the file that the grammar does not spell begins in this line.
     NotADeclaration { line: u32 },
-    /// It is not the program of a counter.
+    /// A name, a member or a key that was declared before, or a second `@main`, is declared in this line.
+    Twice { line: u32 },
+    /// A data struct that holds itself, or whose type is too deep, begins in this line.
+    Recursive { line: u32 },
+    /// A member that the typing rules give no core begins in this line, or a declaration that does not fit its kind.
+    NotTyped { line: u32 },
+    /// A builder or a computed property that writes outside action blocks begins in this line.
+    WritesInBody { line: u32 },
+    /// No declaration carries `@main`.
+    NoMain,
+    /// It is a program, but not that of a counter.
     NotThisApp,
 }
 
@@ -96,6 +106,19 @@ fn refusal_line(alloc: Global, refusal: AppRefusal) -> Result<String, AllocError
         AppRefusal::NotADeclaration { line } => format!(in alloc;
             "swiftview: APP: not a declaration at line {line}\n"
         ),
+        AppRefusal::Twice { line } => format!(in alloc;
+            "swiftview: APP: declared twice at line {line}\n"
+        ),
+        AppRefusal::Recursive { line } => format!(in alloc;
+            "swiftview: APP: recursive type at line {line}\n"
+        ),
+        AppRefusal::NotTyped { line } => format!(in alloc;
+            "swiftview: APP: not typed at line {line}\n"
+        ),
+        AppRefusal::WritesInBody { line } => format!(in alloc;
+            "swiftview: APP: writes in body at line {line}\n"
+        ),
+        AppRefusal::NoMain => String::from_str(alloc, "swiftview: APP: no main\n"),
         AppRefusal::NotThisApp => String::from_str(alloc, "swiftview: APP: not in this form\n"),
     }
 }

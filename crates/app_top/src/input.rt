@@ -18,7 +18,7 @@ use view_engine::{Event, Form};
 const LIMIT: u64 = 1_048_576;
 
 /// The bytes of a file.
-fn fetch<F: Shelf>(
+pub fn fetch<F: Shelf>(
     alloc: Global,
     shelf: &mut F,
     name: &String,

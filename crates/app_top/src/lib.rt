@@ -1,6 +1,7 @@
 //! What the program does, over files and streams that are handed in.
 #![tactic(auto)]
 
+mod checked;
 mod end;
 mod frames;
 mod input;

@@ -1,38 +1,52 @@
-// Why a source that is no program of a counter is refused.
-ghost use Rattle.std.specs.Prelude.{◌≤◌, length};
+// What the bytes of APP are: a program, or why they spell none.
+ghost use Rattle.std.specs.Prelude.{◌≡◌, ◌≤◌, List, ℕ, length, IfSome, IfNone};
+ghost use Rattle.verdict_rules.specs.Verdict.{Accepted, IsRefusal};
 ghost use Rattle.app_top.specs.Ends.{limit};
-ghost use Rattle.app_top.specs.Refusals.{RefusedFor, TokensRefusedFor};
+ghost use Rattle.app_top.specs.Refusals.{NoProgramAs, RefusedAs};
 
 use crate::end::{AppRefusal, End};
 use std::alloc::Global;
-use swift_lex::{LexFault, Token, lex};
-use swift_parse::{ParseFault, parse};
+use view_check::{Refusal, check};
 
-/// Why a source with these tokens is refused.
-fn tokens_refused(alloc: Global, tokens: Vec<Token>) -> End
-    ensures { TokensRefusedFor result tokens.items }
+/// Why the bytes spell no program, or None where they spell one.
+#[tactic(auto, using(crate::proofs::Judging::why_refused))]
+pub fn why_not(alloc: Global, bytes: &[u8]) -> Option<Refusal>
+    requires short { length bytes.now ≤ limit }
+    ensures refused { IfSome result (λ refusal. IsRefusal bytes.now refusal) }
+    ensures accepted { IfNone result (Accepted bytes.now) }
 {
-    let refusal = match parse(alloc, tokens) {
-        Ok(_) => AppRefusal::NotThisApp,
-        Err(ParseFault::OutOfMemory) => return End::OutOfMemory,
-        Err(ParseFault::Unbalanced { line }) => AppRefusal::Unbalanced { line },
-        Err(ParseFault::TooNested { line }) => AppRefusal::TooNested { line },
-        Err(ParseFault::NotADeclaration { line }) => AppRefusal::NotADeclaration { line },
+    check(alloc, bytes).err()
+}
+
+/// The end of a run whose APP spells no program.
+pub fn refused_as(refusal: Refusal) -> End
+    ensures end { (app : List ℕ) → IsRefusal app refusal → NoProgramAs result app }
+{
+    let refusal = match refusal {
+        Refusal::OutOfMemory => return End::OutOfMemory,
+        Refusal::Lex { line, col } => AppRefusal::Lex { line, col },
+        Refusal::Unbalanced { line } => AppRefusal::Unbalanced { line },
+        Refusal::TooNested { line } => AppRefusal::TooNested { line },
+        Refusal::NotADeclaration { line } => AppRefusal::NotADeclaration { line },
+        Refusal::Twice { line } => AppRefusal::Twice { line },
+        Refusal::Recursive { line } => AppRefusal::Recursive { line },
+        Refusal::NotTyped { line } => AppRefusal::NotTyped { line },
+        Refusal::WritesInBody { line } => AppRefusal::WritesInBody { line },
+        Refusal::NoMain => AppRefusal::NoMain,
     };
     End::AppRefused { refusal }
 }
 
-/// Why a source is refused: the first place where no token begins, else the first fault of its grammar, else that it is
-/// another program than that of a counter.
+/// Why a source is refused that is no counter: it spells no program, or another program.
+#[tactic(auto, using(crate::proofs::Judging::as_source, crate::proofs::Judging::other_program))]
 pub fn refused(alloc: Global, bytes: &[u8]) -> End
     requires short { length bytes.now ≤ limit }
-    ensures { RefusedFor result bytes.now }
+    ensures end { RefusedAs result bytes.now }
 {
-    match lex(alloc, bytes) {
-        Ok(tokens) => tokens_refused(alloc, tokens),
-        Err(LexFault::OutOfMemory) => End::OutOfMemory,
-        Err(LexFault::At { line, col }) => End::AppRefused {
-            refusal: AppRefusal::Lex { line, col },
+    match why_not(alloc, bytes) {
+        None => End::AppRefused {
+            refusal: AppRefusal::NotThisApp,
         },
+        Some(refusal) => refused_as(refusal),
     }
 }

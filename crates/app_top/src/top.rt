@@ -1,11 +1,10 @@
 // The top call.
-ghost use Rattle.std.specs.Prelude.{◌≡◌, ◌≤◌, ◌<◌, ◌⊎◌, true, List, ℕ, length, map, Some, None, string_bytes, IsSomeAnd};
-ghost use Rattle.sv_io.specs.Counts.{Rose, WhenTold};
-ghost use Rattle.sv_io.specs.Sink.{SentAll, SentPart};
-ghost use Rattle.app_top.specs.Words.{Names, form_of, is_option};
+ghost use Rattle.std.specs.Prelude.{◌≡◌, map, option_map, string_bytes};
+ghost use Rattle.app_top.specs.Words.{form_of, is_option};
 ghost use Rattle.app_top.specs.Ends.{CameTo, Came, Ended};
-ghost use Rattle.app_top.specs.Table.{Table};
+ghost use Rattle.app_top.specs.Checking.{TableOf, checks_of};
 
+use crate::checked::{check_file, is_check};
 use crate::end::{End, Outcome, tell};
 use crate::frames::{PlayStop, play};
 use crate::input::inputs;
@@ -98,8 +97,22 @@ fn conduct<F: Shelf, O: Sink, E: Sink, B: Ledger, V: Ledger>(
     tell(alloc, diag, end)
 }
 
+/// The file that the words ask to check.
+fn checks(words: &[String]) -> Option<&String>
+    ensures value { option_map (λ app. string_bytes app.now) result ≡ checks_of (map string_bytes words.now) }
+{
+    let [_, flag, app] = words else {
+        return None;
+    };
+    if is_check(flag) && !is_flag(app) {
+        return Some(app);
+    }
+    None
+}
+
 /// The program: reads the words, of which the first is the program's name, and the two files that they name,
-/// writes the frames to `out`, and a line to `diag` where it ends in another way.
+/// writes the frames to `out`, and a line to `diag` where it ends in another way. Where the words ask for a check it reads
+/// and judges the one file alone.
 pub fn run<F: Shelf, O: Sink, E: Sink, B: Ledger, V: Ledger>(
     alloc: Global,
     words: &[String],
@@ -109,7 +122,7 @@ pub fn run<F: Shelf, O: Sink, E: Sink, B: Ledger, V: Ledger>(
     bodies: &mut Steps<B>,
     visits: &mut Steps<V>,
 ) -> Outcome
-    ensures table { Table (record {
+    ensures table { TableOf (checks_of (map string_bytes words.now)) (record {
       form = form_of (map string_bytes words.now);
       shelf = F.seen shelf.old;
       shelf' = F.seen shelf.new;
@@ -123,5 +136,8 @@ pub fn run<F: Shelf, O: Sink, E: Sink, B: Ledger, V: Ledger>(
     }) }
     ensures visits { visits.new ≡ visits.old }
 {
-    conduct(alloc, words, shelf, out, diag, bodies, visits)
+    match checks(words) {
+        Some(app) => check_file(alloc, app, shelf, out, diag, bodies),
+        None => conduct(alloc, words, shelf, out, diag, bodies, visits),
+    }
 }

@@ -102,7 +102,7 @@ fn frames_go_out(rt: HostRuntime) -> Result<(), Fail> {
 }
 
 // The words, APP, SCRIPT, the failing calls of the shelf and of out, and then the status, the bytes that went out, and the line.
-const CASES: [(&[&str], &[u8], &[u8], &[u64], &[u64], u8, usize, &str); 12] = [
+const CASES: [(&[&str], &[u8], &[u8], &[u64], &[u64], u8, usize, &str); 18] = [
     (&["p", "a", "s"], APP, b"", &[], &[], 0, 1952, ""),
     (
         &["p", "a", "s"],
@@ -112,7 +112,7 @@ const CASES: [(&[&str], &[u8], &[u8], &[u64], &[u64], u8, usize, &str); 12] = [
         &[],
         1,
         0,
-        "swiftview: APP: not in this form\n",
+        "swiftview: APP: no main\n",
     ),
     (
         &["p", "s", "s"],
@@ -122,7 +122,40 @@ const CASES: [(&[&str], &[u8], &[u8], &[u64], &[u64], u8, usize, &str); 12] = [
         &[],
         1,
         0,
-        "swiftview: APP: not in this form\n",
+        "swiftview: APP: no main\n",
+    ),
+    (&["p", "--check", "a"], APP, b"", &[], &[], 0, 9, ""),
+    (
+        &["p", "--check", "a"],
+        b"",
+        b"",
+        &[],
+        &[],
+        1,
+        0,
+        "swiftview: APP: no main\n",
+    ),
+    (&["p", "--check", "a", "s"], APP, b"", &[], &[], 2, 0, USAGE),
+    (&["p", "--check", "-a"], APP, b"", &[], &[], 2, 0, USAGE),
+    (
+        &["p", "--check", "b"],
+        APP,
+        b"",
+        &[],
+        &[],
+        6,
+        0,
+        "swiftview: cannot read APP\n",
+    ),
+    (
+        &["p", "--check", "a"],
+        APP,
+        b"",
+        &[],
+        &[0],
+        7,
+        0,
+        "swiftview: write failed\n",
     ),
     (&["p", "a"], APP, b"", &[], &[], 2, 0, USAGE),
     (&["p", "a", "-s"], APP, b"", &[], &[], 2, 0, USAGE),
@@ -214,8 +247,8 @@ fn statuses(rt: HostRuntime) -> Result<(), Fail> {
     Ok(())
 }
 
-// An APP, and the line of its refusal.
-const REFUSED: [(&[u8], &str); 8] = [
+// An APP, and the line of its refusal where it is to be run; where it is only checked, `accepted` stands for no refusal.
+const REFUSED: [(&[u8], &str); 14] = [
     (
         b"import SwiftUI\n/* x",
         "swiftview: APP: lex fault at 2:1\n",
@@ -238,8 +271,40 @@ const REFUSED: [(&[u8], &str); 8] = [
         b"\n((((((((((((((((((((((((((((((((((((((((((((((((((((((((((((((((\n))))))))))))))))))))))))))))))))))))))))))))))))))))))))))))))))",
         "swiftview: APP: not a declaration at line 2\n",
     ),
-    (b"import SwiftUI", "swiftview: APP: not in this form\n"),
+    (b"import SwiftUI", "swiftview: APP: no main\n"),
+    (
+        b"@main struct A: App { var body: some Scene { WindowGroup { Text(\"a\") } } }\nstruct B { var x = true + 1 }",
+        "swiftview: APP: not typed at line 2\n",
+    ),
+    (
+        b"@main struct A: App { var body: some Scene { WindowGroup { Text(\"a\") } } }\nstruct B { var b: [B] }",
+        "swiftview: APP: recursive type at line 2\n",
+    ),
+    (
+        b"@main struct A: App { var body: some Scene { WindowGroup { Text(\"a\") } } }\nstruct B { let a: Int }\nenum B { case x }",
+        "swiftview: APP: declared twice at line 3\n",
+    ),
+    (
+        b"@main struct A: App { var body: some Scene { WindowGroup { Text(\"a\") } } }\nstruct V: View { @State var n = 0\nvar k: Int { n += 1; return n }\nvar body: some View { Text(\"a\") } }",
+        "swiftview: APP: writes in body at line 3\n",
+    ),
+    (
+        b"@main struct A: App { var body: some Scene { WindowGroup { Text(\"a\") } } }",
+        "swiftview: APP: not in this form\n",
+    ),
+    (TO_DO, "swiftview: APP: not in this form\n"),
 ];
+
+const TO_DO: &[u8] = b"@main struct A: App { var body: some Scene { WindowGroup { Main() } } }
+struct Item: Identifiable { let id: Int; var title: String; var done = false }
+struct Main: View {
+    @State private var items = [Item(id: 1, title: \"milk\"), Item(id: 2, title: \"tea\")]
+    var left: Int { var k = 0; for i in items { if !i.done { k += 1 } }; return k }
+    var body: some View {
+        VStack(alignment: .leading) { Text(\"\\(left) left\"); ForEach($items) { $item in Toggle(item.title, isOn: $item.done) } }
+    }
+}
+";
 
 #[test]
 fn refusals(rt: HostRuntime) -> Result<(), Fail> {
@@ -257,9 +322,32 @@ fn refusals(rt: HostRuntime) -> Result<(), Fail> {
     Ok(())
 }
 
+// The same files, only checked: a program that is no counter is accepted.
+#[test]
+fn checks(rt: HostRuntime) -> Result<(), Fail> {
+    let alloc = rt.alloc();
+    let words = words(alloc, &["p", "--check", "a"])?;
+    for (app, line) in REFUSED {
+        let mut shelf = shelf(alloc, app.to_vec(alloc)?, Vec::new(alloc), &[])?;
+        let mut out = MemSink::new(alloc, 1000, 4096, Vec::new(alloc))?;
+        let mut diag = MemSink::new(alloc, 100, 100, Vec::new(alloc))?;
+        let outcome = run_in(alloc, &words, &mut shelf, &mut out, &mut diag);
+        if line == "swiftview: APP: not in this form\n" {
+            assert_eq!(rt; outcome.status, 0);
+            assert_eq!(rt; out.bytes(), b"accepted\n".as_slice());
+            assert_eq!(rt; diag.bytes().len(), 0);
+        } else {
+            assert_eq!(rt; outcome.status, 1);
+            assert_eq!(rt; out.bytes().len(), 0);
+            assert_eq!(rt; diag.bytes(), line.as_bytes());
+        }
+    }
+    Ok(())
+}
+
 // Bytes of APP, taps of SCRIPT, and then the status, the kept count, and the line.
 const SIZES: [(usize, usize, u8, u64, &str); 3] = [
-    (1_048_576, 0, 1, 0, "swiftview: APP: not in this form\n"),
+    (1_048_576, 0, 1, 0, "swiftview: APP: no main\n"),
     (1_048_577, 0, 9, 1_048_577, "swiftview: APP: too long\n"),
     (0, 10_001, 3, 0, "swiftview: SCRIPT: not in this form\n"),
 ];

@@ -1,0 +1,1 @@
+pub use Rattle.verdict_rules.specs.Verdict
