@@ -8,6 +8,9 @@ ghost use Rattle.align_guides.specs.Guides.{guide_of, guides_of, guide_in, guide
 use std::alloc::{AllocError as OutOfMemory, Global};
 use sv_items::Boxed;
 
+#[cfg(test)]
+mod tests;
+
 /// The greatest length.
 pub const LIMIT: u32 = 1_000_000;
 

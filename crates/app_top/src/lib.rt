@@ -10,3 +10,6 @@ mod top;
 
 pub use end::Outcome;
 pub use top::run;
+
+#[cfg(test)]
+mod tests;

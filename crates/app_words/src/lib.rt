@@ -41,3 +41,6 @@ pub fn form_of<'a>(alloc: Global, words: &'a [String]) -> Result<Option<Form<'a>
 {
     read_form(alloc, words)
 }
+
+#[cfg(test)]
+mod tests;

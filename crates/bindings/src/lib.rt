@@ -7,6 +7,9 @@ ghost use Rattle.sv_value.specs.Hops.{part_at, with_part, hop_from, element, fie
 
 use sv_value::{Hop, Hops, Missing, Value, Values};
 
+#[cfg(test)]
+mod tests;
+
 // The element at `index`.
 fn element(parts: &[Value], index: i64) -> Result<&Value, Missing>
     ensures { MatchResult result (λ part. element parts.now index ≡ Ok part.now) (λ missing. element parts.now index ≡ Err missing) }

@@ -7,3 +7,6 @@ mod script;
 
 pub use app::{FormFault, read_app};
 pub use script::read_script;
+
+#[cfg(test)]
+mod tests;

@@ -11,3 +11,6 @@ mod node;
 mod spare;
 
 pub use lists::{Edge, EdgeLists};
+
+#[cfg(test)]
+mod tests;

@@ -8,3 +8,6 @@ mod words;
 
 pub use event::{Event, ScriptFault};
 pub use script::read_script;
+
+#[cfg(test)]
+mod tests;

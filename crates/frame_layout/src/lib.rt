@@ -26,6 +26,9 @@ ghost use Rattle.frame_layout.specs.Frames.{
 
 use align_guides::{LIMIT, Proposal, Size, to_length};
 
+#[cfg(test)]
+mod tests;
+
 /// The arguments of a flexible frame for one axis, as the program gives them: a negative number counts as 0, and one
 /// above the greatest length as that length.
 #[derive(Clone, Copy, Debug, PartialEq, Eq)]

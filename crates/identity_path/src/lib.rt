@@ -7,6 +7,8 @@ mod input;
 mod path;
 mod place;
 mod step;
+#[cfg(test)]
+mod tests;
 mod text;
 
 pub use cells::Cells;

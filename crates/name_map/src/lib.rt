@@ -9,6 +9,9 @@ use indexmap::IndexMap;
 use std::alloc::{AllocError, Global};
 use std::marker::Model;
 
+#[cfg(test)]
+mod tests;
+
 /// A number for each of some names, found by the name's hash. Contracts see the finite map alone, not the order of the entries.
 #[derive(Drop)]
 pub struct NameMap {

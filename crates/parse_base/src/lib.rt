@@ -5,6 +5,8 @@
 
 mod cursor;
 mod stop;
+#[cfg(test)]
+mod tests;
 
 pub use cursor::{Tokens, is_joined, is_on_new_line, is_reserved, is_sign, joined_next};
 pub use stop::Stop;

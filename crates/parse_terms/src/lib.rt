@@ -2,6 +2,8 @@
 #![tactic(auto)]
 
 mod patterns;
+#[cfg(test)]
+mod tests;
 mod trees;
 mod types;
 mod words;

@@ -70,6 +70,9 @@ use align_guides::{Axis, LIMIT, Proposal, Size, to_length};
 use std::alloc::AllocError as OutOfMemory;
 use std::cmp::Reverse;
 
+#[cfg(test)]
+mod tests;
+
 /// A view of a stack, while sizes are planned. `flex` and `size` are written by the plan.
 #[derive(Clone, Copy, Debug, PartialEq, Eq)]
 pub struct Slot {

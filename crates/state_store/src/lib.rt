@@ -3,6 +3,8 @@
 
 mod state;
 mod table;
+#[cfg(test)]
+mod tests;
 mod weigh;
 
 pub use state::{EnterStop, State};

@@ -5,6 +5,8 @@ mod copies;
 mod hop;
 mod names;
 mod print;
+#[cfg(test)]
+mod tests;
 mod text;
 mod value;
 

@@ -11,6 +11,8 @@ mod names;
 mod numbers;
 mod place;
 mod signs;
+#[cfg(test)]
+mod tests;
 mod text;
 mod token;
 mod word;

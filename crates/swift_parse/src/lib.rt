@@ -14,3 +14,6 @@ mod words;
 pub use faults::ParseFault;
 pub use file::parse;
 pub use laws::one_source;
+
+#[cfg(test)]
+mod tests;

@@ -8,3 +8,6 @@ mod pieces;
 
 pub use limiting::{image_line, lines_of};
 pub use pieces::{Cluster, ClusterText, Line, Lines};
+
+#[cfg(test)]
+mod tests;

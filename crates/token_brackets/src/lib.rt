@@ -7,6 +7,8 @@ mod nesting;
 mod partners;
 mod pieces;
 mod prefix;
+#[cfg(test)]
+mod tests;
 
 pub use brackets::{Bracket, Shape, bracket_of};
 pub use nesting::{MAX_DEPTH, too_nested};

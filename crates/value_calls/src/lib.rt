@@ -7,6 +7,8 @@ mod integers;
 mod laws;
 mod made;
 mod operators;
+#[cfg(test)]
+mod tests;
 mod texts;
 mod traps;
 

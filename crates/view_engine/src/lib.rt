@@ -7,3 +7,6 @@ mod paint;
 
 pub use engine::Engine;
 pub use form::{Canvas, Event, Form, Halt, Settled, Size};
+
+#[cfg(test)]
+mod tests;

@@ -1,9 +1,0 @@
-use Rattle.std.proofs.Common.{◌≡◌, ◌+◌, ◌≤◌}
-use Rattle.call_tests.proofs.edge_lists_calls.link_readers.Given as goal
-
-abbrev pub invariant-loop-reader : goal.invariant-loop-reader
-invariant-loop-reader g l = record {
-  heads : (l.lists.readers ≡ l.fn.lists.readers) × (l.lists.sources ≡ l.fn.lists.sources);
-  spare : l.lists.spare + l.reader ≡ l.fn.lists.spare;
-  visits : l.visits ≡ l.fn.visits + l.reader;
-}

@@ -1,4 +1,0 @@
-use Rattle.call_tests.proofs.edge_lists_calls.walks_past_what_was_taken_out.Given as goal
-
-abbrev pub ghosts-with_one_out : goal.ghosts-with_one_out
-ghosts-with_one_out g a = record { name = a.blank.name; parts = a.blank.parts }

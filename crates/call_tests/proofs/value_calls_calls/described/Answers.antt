@@ -1,5 +1,0 @@
-use Rattle.value_calls.specs.Answered.{describe_answers}
-use Rattle.call_tests.proofs.value_calls_calls.described.Goals as goal
-
-pub operate_one-requires : goal.operate_one-requires
-operate_one-requires c = describe_answers _

@@ -1,5 +1,0 @@
-use Rattle.value_calls.specs.Answered.{insert_answers}
-use Rattle.call_tests.proofs.value_calls_calls.inserted.Goals as goal
-
-pub insert-requires : goal.insert-requires
-insert-requires c = insert_answers c.args.parts _ _
