@@ -1,8 +1,8 @@
 #!/usr/bin/env bash
 # Builds swiftview and runs it on the words that are given, as in
 #     ./swiftview.sh examples/counter/counter.swift examples/counter/counter.taps
-# To be quick it leaves the proofs out, and it shows at most 1 MiB of output. In crates/swiftview, `rt run` proves the
-# program and keeps it as out/swiftview; `rt ci` here proves and tests everything.
+# After `rt ci`, or `rt run` in crates/swiftview, the proved program stands in crates/swiftview/out and is run at once. Before
+# that, or where a source has changed since, it is built without its proofs, and shows at most 1 MiB of output.
 set -eu
 words=()
 for word in "$@"; do
@@ -13,5 +13,8 @@ for word in "$@"; do
     fi
 done
 cd "$(dirname "$0")/crates/swiftview"
+if [ -x out/swiftview ] && [ -z "$(find .. -name '*.rt' -newer out/swiftview -print -quit)" ]; then
+    exec out/swiftview ${words[@]+"${words[@]}"}
+fi
 echo "building swiftview without its proofs ..." >&2
 exec rt try -- ${words[@]+"${words[@]}"}

@@ -1,0 +1,15 @@
+use Rattle.body_parts.proofs.Turns.{place_right, next_place, place_left}
+use Rattle.body_parts.specs.Nests.{of}
+use Rattle.body_parts.proofs.each.places_items.Goals as goal
+
+pub item_of-requires-clause-right : goal.item_of-requires-clause-right
+item_of-requires-clause-right g c =
+    place_right (of c.args.builder.now) c.args.rule c.args.content.now _ _ _ _ _ _ _ _ _ _ _
+    c.in-len1-up.len_at_least c.element-item.is c.in_ok-inner.ensures c.loop-rest.invariant.whole c.requires.right
+
+pub loop-rest-preserved : goal.loop-rest-preserved
+loop-rest-preserved g c = record {
+  whole = next_place (of c.args.builder.now) c.args.rule c.args.content.now _ _ _ _ _ _ _ _ _ _ _ _ _ _ _ _
+      c.in-len1-up.len_at_least c.element-item.is c.in_ok-inner.ensures c.in_ok-item.ensures.does c.in_ok-noted.ensures.value c.in_ok-push.ensures.ok c.loop-rest.invariant.whole;
+  fits = place_left _ _ _ c.in-len1-up.len_at_least c.loop-rest.invariant.fits;
+}

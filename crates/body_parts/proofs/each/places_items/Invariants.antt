@@ -1,0 +1,22 @@
+use Rattle.std.proofs.Common.{◌≡◌, length, ◌+◌}
+use Rattle.core_means.specs.Asks.{under, world}
+use Rattle.eval_places.specs.Runs.{look_of}
+use Rattle.body_means.specs.Each.{items_from, offered_places}
+use Rattle.body_means.specs.Items.{building}
+use Rattle.body_parts.proofs.each.places_items.Given as goal
+
+-- what is done and what is left are the whole
+abbrev pub invariant-loop-rest : goal.invariant-loop-rest
+invariant-loop-rest g l =
+    let s = l.builder.setting.now in
+    let held = g.L.Cells.map in
+    let map = g.C.Cells.map in
+    let from = items_from (building s.program.now l.builder.room l.builder.code) l.rule l.content in
+    record {
+      whole : under (look_of held s) l.run.reads (from l.ids l.done (offered_places l.place l.at l.rest) (world l.run s.is_block s.frame.now (map l.cells)))
+          ≡ under (look_of held s) l.initial.run.reads (from l.initial.ids l.initial.done (offered_places l.place l.initial.at l.initial.rest) (world l.initial.run s.is_block s.frame.now (map l.initial.cells)));
+      fits : l.at + length l.rest ≡ length l.initial.rest;
+    }
+
+abbrev pub decreases-loop-rest : goal.decreases-loop-rest
+decreases-loop-rest g l = length l.rest

@@ -1,0 +1,3 @@
+pub mod Arms
+pub mod Nests
+pub mod Shapes

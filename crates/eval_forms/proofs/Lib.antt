@@ -1,0 +1,4 @@
+pub mod Stops
+pub mod Turns
+pub mod Promotions
+pub mod Counts

@@ -1,0 +1,4 @@
+pub mod Absents
+pub mod Ends
+pub mod Levels
+pub mod Vacancy

@@ -1,0 +1,4 @@
+pub mod Counts
+pub mod Standing
+pub mod Trees
+pub mod Descriptions
