@@ -15,7 +15,8 @@ use Rattle.core_means.specs.Public.{absent}
 use Rattle.body_means.specs.Bodies.{with_captured, parameters}
 use Rattle.world_fits.specs.Frames.{HasAt}
 use Rattle.world_fits.specs.Lists.{some_same, at_front, at_back, at_either, set_here, set_there}
-use Rattle.world_fits.specs.Runs.{InputsHave, KeptHave}
+use Rattle.world_fits.specs.Kept.{KeptHave}
+use Rattle.world_fits.specs.Runs.{InputsHave}
 use Rattle.world_fits.specs.Sites.{Site, Holds, LocalHas, LocalsFit}
 use Rattle.meaning_rights.specs.Actions.{shown_of}
 use Rattle.reader_locals.specs.Filled.{held_input, filled_local, filled_option, filled_get, map_length}
@@ -46,6 +47,45 @@ many_parameters (suc n) = ap suc (many_parameters n)
 -- how many locals a body begins with
 pub begins_with : (outer n : ℕ) (kept : List ℕ) → length (with_captured (absent outer) 0 kept ++ parameters n) ≡ outer + n
 begins_with outer n kept = length-append (with_captured (absent outer) 0 kept) (parameters n) ∙ (λ j. (captured_length kept (absent outer) 0 ∙ many_absent outer) j + many_parameters n j)
+
+-- ---- none of them is there
+
+abbrev NoneHeld : List Held → Type 0
+NoneHeld here = (i : ℕ) (x : Input) → slice_get here i ≡ Some (held.Holds x) → ⊥
+
+set_either : {X : Type 0} (xs : List X) (i j : ℕ) (x y : X) → slice_get (slice_set xs i y) j ≡ Some x → (y ≡ x) ⊎ (slice_get xs j ≡ Some x)
+set_either [] i j x y e = inr e
+set_either (z ∷ xs) zero zero x y e = inl (some_same y x e)
+set_either (z ∷ xs) zero (suc j) x y e = inr e
+set_either (z ∷ xs) (suc i) zero x y e = inr e
+set_either (z ∷ xs) (suc i) (suc j) x y e = set_either xs i j x y e
+
+absent_none : (n : ℕ) → NoneHeld (absent n)
+absent_none zero i x e = cc
+absent_none (suc n) zero x e = cc
+absent_none (suc n) (suc i) x e = absent_none n i x e
+
+parameters_none : (n : ℕ) → NoneHeld (parameters n)
+unfolding parameters
+parameters_none zero i x e = cc
+parameters_none (suc n) zero x e = cc
+parameters_none (suc n) (suc i) x e = parameters_none n i x e
+
+captured_none : (ks : List ℕ) (here : List Held) (n : ℕ) → NoneHeld here → NoneHeld (with_captured here n ks)
+unfolding with_captured
+captured_none [] here n h = h
+captured_none (k ∷ ks) here n h = captured_none ks (slice_set here k (held.Captured n)) (n + 1) (λ i x e. go i x (set_either here k i (held.Holds x) (held.Captured n) e))
+  where
+    go : (i : ℕ) (x : Input) → (held.Captured n ≡ held.Holds x) ⊎ (slice_get here i ≡ Some (held.Holds x)) → ⊥
+    go i x (inl e) = cc
+    go i x (inr e) = h i x e
+
+pub none_held : (outer n : ℕ) (kept : List ℕ) (i : ℕ) (x : Input) → slice_get (with_captured (absent outer) 0 kept ++ parameters n) i ≡ Some (held.Holds x) → ⊥
+none_held outer n kept i x e = go (at_either (with_captured (absent outer) 0 kept) (parameters n) i (held.Holds x) e)
+  where
+    go : (slice_get (with_captured (absent outer) 0 kept) i ≡ Some (held.Holds x)) ⊎ ((j : ℕ) × (i ≡ length (with_captured (absent outer) 0 kept) + j) × (slice_get (parameters n) j ≡ Some (held.Holds x))) → ⊥
+    go (inl f) = captured_none kept (absent outer) 0 (absent_none outer) i x f
+    go (inr f) = parameters_none n f.0 x f.2
 
 module _ (site : Site) (inputs : List Input) (locals : List Local) (kept : List ℕ) where
   -- those that are left have not been captured yet

@@ -1,5 +1,5 @@
 -- The blocks of a member: their numbers, and what they keep of the locals.
-use Rattle.std.specs.Prelude.{◌≡◌, ℕ, zero, suc, ◌+◌, ◌-◌, ◌<◌, ◌≤◌, Bool, true, false, cond, nat_lt, nat_eq, List, [], ◌∷◌, ◌++◌, length, take, Option, Some, None, slice_get, ⊤}
+use Rattle.std.specs.Prelude.{◌≡◌, ℕ, zero, suc, ◌+◌, ◌-◌, ◌<◌, ◌≤◌, Bool, true, false, cond, nat_lt, nat_eq, List, [], ◌∷◌, ◌++◌, length, take, Option, Some, None, slice_get, ⊤, ◌⊎◌}
 use Rattle.std.specs.List.{list_any}
 use Rattle.std.proofs.Common.{refl, sym, ap, subst, ◌∙◌, arith}
 use Rattle.std.proofs.Math.ListN.{replicate}
@@ -7,9 +7,9 @@ use Rattle.std.proofs.lemmas.Bool.{le-ltb, lt-ltb, ltb-true}
 use Rattle.std.proofs.lemmas.List.{length-append, length-replicate}
 use Rattle.std.proofs.lemmas.Option.{slice_get_within}
 use Rattle.swift_core.specs.Codes.{Parts as Program, blocks_of, homes_from, first_block, numbered, block_in, code_in, member_in, member_at, main_of}
-use Rattle.swift_core.specs.Context.{Context, Local}
+use Rattle.swift_core.specs.Context.{Context, Local, HasMember}
 use Rattle.swift_core.specs.Mentions.{Mentions}
-use Rattle.swift_core.specs.Typing.{IsBlock, IsAction, IsReader}
+use Rattle.swift_core.specs.Typing.{IsBlock, IsAction, IsReader, GivesViews, itself_in}
 use Rattle.swift_core.specs.Uses.{kept_by, with_use, first_uses, locals_used}
 use Rattle.swift_core.specs.declared.code.Code.{Code}
 use Rattle.swift_core.specs.declared.code.CodeForm.{CodeForm}
@@ -17,12 +17,16 @@ use Rattle.swift_core.specs.declared.code.CoreMember.{CoreMember}
 use Rattle.swift_core.specs.declared.ids.BlockId.{BlockId}
 use Rattle.swift_core.specs.declared.mention.Mention.{Mention}
 use Rattle.swift_core.specs.declared.mention.Mention.TheVariants as mention
+use Rattle.swift_core.specs.declared.table.Declaration.{Declaration}
+use Rattle.swift_core.specs.declared.table.ParamSignature.{ParamSignature}
+use Rattle.swift_core.specs.declared.table.Signature.{Signature}
 use Rattle.swift_core.specs.declared.ty.Ty.{Ty}
 use Rattle.core_means.specs.Means.{code_of}
 use Rattle.body_means.specs.Kept.{numbered_block, block_of, block_at}
 use Rattle.world_fits.specs.Lists.{Each, at_front, at_back, some_same, each_pushed}
 use Rattle.world_fits.specs.Sites.{Site, Scope, Allowed}
 use Rattle.form_rights.specs.Inside.{MayDo}
+use Rattle.body_terms.specs.Gives.{BlockPlace}
 
 -- ---- blocks among all code
 
@@ -89,23 +93,56 @@ module _ (members : List CoreMember) where
   pub main_member : (n : ℕ) (m : CoreMember) → slice_get members n ≡ Some m → member_in members n ≡ Some n
   main_member n m e = ap (λ t. cond t (Some n) (slice_get (homes_from 0 members) (n - length members))) (lt-ltb n (length members) (slice_get_within members n m e))
 
--- the member that a piece of code is of, whose blocks are those of the scope
-pub record Home (p : Program) (sc : Scope) (code : ℕ) : Type 0 where
-  pub place : ℕ
+-- The member that a piece of code is of, which gives views. The scope is that of the member. The locals before the limit are captured: in
+-- the builder of the unit those that the unit captures, and none in another member.
+pub record Home (p : Program) (whole limit : ℕ) (sc : Scope) (code : ℕ) : Type 0 where
+  pub d : ℕ
+  pub declaration : Declaration
+  pub declared : slice_get p.table.declarations d ≡ Some declaration
+  pub sign : Signature
+  pub has : HasMember p.table d sign
+  pub parameters_of : List ParamSignature
+  pub views : GivesViews sign parameters_of
   pub member : CoreMember
-  pub is_of : member_at p code ≡ Some place
-  pub there : slice_get p.members place ≡ Some member
+  pub is_of : member_at p code ≡ Some sign.code.number
+  pub there : slice_get p.members sign.code.number ≡ Some member
+  pub owner : sc.owner ≡ Some d
+  pub its : sc.itself ≡ itself_in declaration.kind
   pub blocks : sc.blocks ≡ member.blocks
+  pub is_limit : (limit ≡ 0) ⊎ (limit ≡ whole)
 
-pub block_found : (p : Program) (sc : Scope) (code : ℕ) → Home p sc code → (id : BlockId) (c : Code) → slice_get sc.blocks id.number ≡ Some c → (n : ℕ) × (block_at p code id ≡ Some (record { number = n; code = c }))
-unfolding code_of
-block_found p sc code home id c at =
-    let here : slice_get home.member.blocks id.number ≡ Some c = ap (λ (bs : List Code). slice_get bs id.number) (sym home.blocks) ∙ at in
-    let n = first_block p.members home.place + id.number in (
-      n,
-      ap (block_of p) (ap (block_in p.members id.number) home.is_of ∙ block_number p.members home.place home.member id.number home.there (slice_get_within home.member.blocks id.number c here))
-          ∙ ap (numbered_block n) (block_code p.members home.place home.member id.number c home.there here),
-    )
+module _ (p : Program) (whole limit : ℕ) (sc : Scope) (code : ℕ) (home : Home p whole limit sc code) (id : BlockId) (c : Code) (at : slice_get sc.blocks id.number ≡ Some c) where
+  pub of_member : slice_get home.member.blocks id.number ≡ Some c
+  of_member = ap (λ (bs : List Code). slice_get bs id.number) (sym home.blocks) ∙ at
+
+  abbrev pub numbered_of : ℕ
+  numbered_of = first_block p.members home.sign.code.number + id.number
+
+  pub of_number : block_in p.members id.number (Some home.sign.code.number) ≡ Some numbered_of
+  of_number = block_number p.members home.sign.code.number home.member id.number home.there (slice_get_within home.member.blocks id.number c of_member)
+
+  pub block_found : block_at p code id ≡ Some (record { number = numbered_of; code = c })
+  unfolding code_of
+  block_found =
+      ap (block_of p) (ap (block_in p.members id.number) home.is_of ∙ of_number)
+      ∙ ap (numbered_block numbered_of) (block_code p.members home.sign.code.number home.member id.number c home.there of_member)
+
+  abbrev pub block_place : BlockPlace p numbered_of
+  block_place = record {
+    d = home.d;
+    declaration = home.declaration;
+    declared = home.declared;
+    sign = home.sign;
+    has = home.has;
+    parameters_of = home.parameters_of;
+    views = home.views;
+    member = home.member;
+    member_there = home.there;
+    block = id;
+    code = c;
+    is_block = of_member;
+    numbered = of_number;
+  }
 
 -- ---- what a block keeps
 
@@ -130,13 +167,13 @@ pub record Written (blocks : List Code) (locals : List Local) (b : BlockId) : Ty
   pub kept : code.kept ≡ locals_used (take b.number blocks) code.outer code.form
 
 pub written_of : (cx : Context) (locals : List Local) (b : BlockId) (ts : List Ty) (form : CodeForm) → IsBlock cx locals b ts form → Written cx.blocks locals b
-written_of cx locals b ts form (IsBlock.written_here {c = c} there outer parameters kept) = record { code = c; there = there; outer = outer; kept = kept }
+written_of cx locals b ts form (IsBlock.written_here {c = c} there outer parameters kept types) = record { code = c; there = there; outer = outer; kept = kept }
 
 pub action_written : (cx : Context) (locals : List Local) (b : BlockId) (ts : List Ty) → IsAction cx locals b ts → Written cx.blocks locals b
 action_written cx locals b ts (IsAction.action {form = form} written is typed) = written_of cx locals b ts form written
 
 pub reader_written : (cx : Context) (locals : List Local) (b : BlockId) (t : Ty) → IsReader cx locals b t → Written cx.blocks locals b
-reader_written cx locals b t (IsReader.reader {form = form} written is typed) = written_of cx locals b (t ∷ []) form written
+reader_written cx locals b t (IsReader.reader {form = form} written is typed keeps) = written_of cx locals b (t ∷ []) form written
 
 pub kept_below : (blocks : List Code) (locals : List Local) (b : BlockId) (w : Written blocks locals b) → Each (λ k. k < length locals) w.code.kept
 kept_below blocks locals b w =

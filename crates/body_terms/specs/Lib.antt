@@ -1,5 +1,6 @@
 pub mod Sound
 pub mod Safe
+pub mod Gives
 pub mod Homes
 pub mod Terms
 pub mod Nodes

@@ -47,7 +47,7 @@ module _ (site : Site) (inputs : List Input) (limit : ℕ) where
   pub fits_nodes : {sc : Scope} {locals : List Local} (w : World) (n : ℕ) → Fitting sc locals w → Fitting sc locals (record w { nodes = n })
   fits_nodes w n fit = record {
     fits = record { here = fit.fits.here; places = fit.fits.places; itself = fit.fits.itself; home = fit.fits.home; live = fit.fits.live };
-    settled = record { quiet = fit.settled.quiet; stands = fit.settled.stands };
+    settled = record { quiet = fit.settled.quiet; stands = fit.settled.stands; long = fit.settled.long; veiled = fit.settled.veiled };
   }
 
   -- ---- locals that are added, and end
@@ -84,7 +84,7 @@ module _ (site : Site) (inputs : List Input) (limit : ℕ) where
   fits_cut : {sc : Scope} {locals : List Local} (w u : World) → Fitting sc locals w → Grown sc locals u → Fitting sc locals (record u { locals = take (length w.locals) u.locals })
   fits_cut {sc = sc} {locals = locals} w u fit g = record {
     fits = subst (λ (ls : List Held). Fits site sc locals (record u { locals = ls })) (sym (filled_take inputs limit w u)) (cut site (fill inputs w) (fill inputs u) fit.fits (g.0, g.1.fits));
-    settled = settled_take inputs limit u (length w.locals) g.1.settled;
+    settled = settled_take inputs limit u (length w.locals) fit.settled.long g.1.settled;
   }
 
   -- ---- steps

@@ -1,6 +1,6 @@
 -- The terms of a body, the places that bindings are, and the locals that blocks keep and readers capture.
-use Rattle.std.specs.Prelude.{◌≡◌, ℕ, zero, suc, ◌<◌, true, List, [], ◌∷◌, ◌++◌, length, map, reverse, Option, Some, None, slice_get, ⊤}
-use Rattle.std.specs.List.{flat_map}
+use Rattle.std.specs.Prelude.{◌≡◌, ℕ, zero, suc, ◌<◌, true, List, [], ◌∷◌, ◌++◌, length, map, reverse, Option, Some, None, slice_get, ⊤, nat_lt, Bool, false}
+use Rattle.std.specs.List.{flat_map, cons_option}
 use Rattle.std.proofs.Common.{refl, sym, ap, subst, ◌∙◌}
 use Rattle.std.proofs.lemmas.List.{reverse-append}
 use Rattle.identity_path.specs.declared.input.Input.{Input}
@@ -10,9 +10,9 @@ use Rattle.identity_path.specs.declared.step.Step.{Step}
 use Rattle.sv_value.specs.declared.hop.Hop.{Hop}
 use Rattle.sv_value.specs.declared.hop.Hop.TheVariants as hop
 use Rattle.sv_value.specs.declared.value.Value.{Value}
-use Rattle.swift_core.specs.Context.{Local, Itself}
+use Rattle.swift_core.specs.Context.{Local, Itself, Context}
 use Rattle.swift_core.specs.Mentions.{TargetMentions, joined, core_mentions, root_mentions, over_mentions, target_mentions, is_among_cells}
-use Rattle.swift_core.specs.Typing.{Has, Begins, Leads, Steps, Places, Binds, IsRange, HopForm, Arguments}
+use Rattle.swift_core.specs.Typing.{Has, Begins, Leads, Steps, Places, Binds, IsRange, HopForm, Arguments, itself_in, IsAction}
 use Rattle.swift_core.specs.declared.ids.BlockId.{BlockId}
 use Rattle.swift_core.specs.declared.mention.Mention.TheVariants as mention
 use Rattle.swift_core.specs.declared.stmt.Over.{Over}
@@ -42,7 +42,7 @@ use Rattle.value_fits.specs.Changes.{ValuesHave}
 use Rattle.value_fits.specs.Fields.{IsField}
 use Rattle.value_fits.specs.Reached.{HopFits, HopsFit}
 use Rattle.world_fits.specs.Laws.{Known}
-use Rattle.world_fits.specs.Lists.{Each, each_front, each_back}
+use Rattle.world_fits.specs.Lists.{Each, each_front, each_back, some_same, append_none, append_twice}
 use Rattle.world_fits.specs.Locals.{used}
 use Rattle.world_fits.specs.Places.{value_right, plain_of_right}
 use Rattle.world_fits.specs.Right.{GivesSome}
@@ -53,15 +53,23 @@ use Rattle.form_rights.specs.Good.{good_still}
 use Rattle.form_rights.specs.Mentions as mentions
 use Rattle.form_rights.specs.Mentions.{hop_mentions}
 use Rattle.meaning_rights.specs.Laws.{terms_have_meanings}
-use Rattle.reader_locals.specs.Alters.{all_of, core_alters, over_alters, target_alters}
+use Rattle.swift_core.specs.Alters.{all_of, core_alters, over_alters, target_alters}
 use Rattle.reader_locals.specs.AlterLayers as alters
 use Rattle.reader_locals.specs.AlterLayers.{From, Beyond, hop_alters, flat_all}
-use Rattle.reader_locals.specs.Filled.{filled_option, held_input, known_at, filled_get, Settled}
+use Rattle.reader_locals.specs.Filled.{filled_option, held_input, known_at, filled_get, Settled, filled_local}
 use Rattle.reader_locals.specs.Terms.{value_calm, plain_of_calm, values_calm}
 use Rattle.reader_locals.specs.Statements.{runs_calm, terms_calm}
-use Rattle.body_terms.specs.Homes.{Home, Written, block_found, kept_below, at_there, Permitted, Permits, may_of, kept_shown}
+use Rattle.body_terms.specs.Homes.{Home, Written, block_found, kept_below, at_there, Permitted, Permits, may_of, kept_shown, block_place, numbered_of}
 use Rattle.body_terms.specs.Safe.{Fitting, Safe, safe_of, safe_then, safe_give, safe_given, safe_found, safe_trap, safe_spend, safe_weaker}
 use Rattle.body_terms.specs.Sound.{Sound, done_sound, known_sound}
+use Rattle.body_terms.specs.Gives.{HandlerFits, OwnHas, OwnHave}
+use Rattle.std.proofs.lemmas.Bool.{ltb-false, ltb-true}
+use Rattle.world_fits.specs.Kept.{KeptHave}
+
+-- the context of a scope is that of its member
+pub same_context : (site : Site) (whole limit : ℕ) (sc : Scope) (code : ℕ) (home : Home site.program whole limit sc code)
+    → context site sc ≡ record { table = site.program.table; owner = Some home.d; itself = itself_in home.declaration.kind; blocks = home.member.blocks }
+same_context site whole limit sc code home = λ j. record { table = site.program.table; owner = home.owner j; itself = home.its j; blocks = home.blocks j }
 
 module _ (site : Site) (known : Known site) (inputs : List Input) (limit : ℕ) (sc : Scope) (locals : List Local) where
   abbrev pub Safely : {A : Type 0} → (A → Type 0) → (World → Asks A) → Type 0
@@ -121,41 +129,72 @@ module _ (site : Site) (known : Known site) (inputs : List Input) (limit : ℕ) 
       go x (Some held.Preference) e h = let is : held_input inputs (known_at inputs origin.Preference) ≡ held.Holds x = cc in known_local _ origin.Preference x w fit.settled is (h, fit)
       go x (Some held.Absent) e h = cc
 
-  own_safe : (k : ℕ) (l : Local) → slice_get locals k ≡ Some l → sc.shows k ≡ true → Safely (λ (o : Option Input). ⊤) (own_at k)
+  -- what is kept of a local
+  own_safe : (k : ℕ) (l : Local) → slice_get locals k ≡ Some l → sc.shows k ≡ true → Safely (OwnHas site.program.table site.types (nat_lt k limit) l) (own_at k)
   unfolding own_at
   own_safe k l at shown w fit =
       let x = used site k fit.fits.here at shown in
-      go x.0 (slice_get w.locals k) (sym (filled_get inputs w.locals k) ∙ x.1)
+      go x.0 (slice_get w.locals k) refl (sym (filled_get inputs w.locals k) ∙ x.1) x.2
     where
-      go : (x : Input) (o : Option Held) → filled_option inputs o ≡ Some (held.Holds x) → Sound site inputs (λ y u. ⊤ × Fitting site inputs limit sc locals u) (given (own_in o) w)
-      go x None e = cc
-      go x (Some (held.Holds v)) e = done_sound site inputs _ (Some v) w (tt, fit)
-      go x (Some (held.Captured n)) e = done_sound site inputs _ None w (tt, fit)
-      go x (Some held.Preference) e = done_sound site inputs _ None w (tt, fit)
-      go x (Some held.Absent) e = cc
+      of_run : (v : Input) (b : Bool) → nat_lt k limit ≡ b → slice_get w.locals k ≡ Some (held.Holds v) → Holds site l v → OwnHas site.program.table site.types b l (Some v)
+      of_run v true e is h = absurd (fit.settled.veiled k v (ltb-true k limit e) is)
+      of_run v false e is h = h
 
-  kept_safe : (ks : List ℕ) (kept : List Input) → Each (λ k. k < length locals) ks → Each (λ k. sc.shows k ≡ true) ks → Safely (λ (xs : List Input). ⊤) (kept_from kept ks)
+      of_reader : (y : Held) (x : Input) (b : Bool) → nat_lt k limit ≡ b → slice_get w.locals k ≡ Some y → (y ≡ held.Holds x → ⊥) → filled_local inputs y ≡ held.Holds x → OwnHas site.program.table site.types b l None
+      of_reader y x true e is other fills = tt
+      of_reader y x false e is other fills = absurd (other (sym (fit.settled.stands k y (ltb-false k limit e) is) ∙ fills))
+
+      go : (x : Input) (o : Option Held) → slice_get w.locals k ≡ o → filled_option inputs o ≡ Some (held.Holds x) → Holds site l x
+          → Sound site inputs (λ y u. OwnHas site.program.table site.types (nat_lt k limit) l y × Fitting site inputs limit sc locals u) (given (own_in o) w)
+      go x None is e h = cc
+      go x (Some (held.Holds v)) is e h = let same : x ≡ v = cc in done_sound site inputs _ (Some v) w (of_run v (nat_lt k limit) refl is (subst (Holds site l) same h), fit)
+      go x (Some (held.Captured n)) is e h = done_sound site inputs _ None w (of_reader (held.Captured n) x (nat_lt k limit) refl is (λ f. cc) (some_same _ (held.Holds x) e), fit)
+      go x (Some held.Preference) is e h = done_sound site inputs _ None w (of_reader held.Preference x (nat_lt k limit) refl is (λ f. cc) (some_same _ (held.Holds x) e), fit)
+      go x (Some held.Absent) is e h = cc
+
+  with_more : (kept : List Input) (o : Option Input) (more : List Input) → with_own kept o ++ more ≡ kept ++ cons_option o more
+  with_more kept None more = refl
+  with_more kept (Some v) more = append_twice kept (v ∷ []) more
+
+  kept_safe : (ks : List ℕ) (kept : List Input) → Each (λ k. k < length locals) ks → Each (λ k. sc.shows k ≡ true) ks
+      → Safely (λ xs. (more : List Input) × (xs ≡ kept ++ more) × OwnHave site.program.table site.types locals limit ks more) (kept_from kept ks)
   unfolding kept_from
-  kept_safe [] kept below shown = safe_give site inputs limit sc locals _ kept tt
+  kept_safe [] kept below shown = safe_give site inputs limit sc locals _ kept ([], sym (append_none kept), refl)
   kept_safe (k ∷ ks) kept below shown =
       let l = at_there locals k below.0 in
-      safe_then site inputs limit sc locals _ (own_at k) (λ o. kept_from (with_own kept o) ks) (own_safe k l.0 l.1 shown.0) (λ o h. kept_safe ks (with_own kept o) below.1 shown.1)
+      safe_then site inputs limit sc locals _ (own_at k) (λ o. kept_from (with_own kept o) ks) (own_safe k l.0 l.1 shown.0)
+      (λ o h. safe_weaker site inputs limit sc locals (kept_from (with_own kept o) ks) (kept_safe ks (with_own kept o) below.1 shown.1)
+      (λ xs e. (cons_option o e.0, e.1 ∙ with_more kept o e.0, (l.0, l.1, (o, h, (e.0, refl, e.2))))))
 
-  pub captured_safe : (ks : List ℕ) (captured : List Input) → Each (λ k. k < length locals) ks → Each (λ k. sc.shows k ≡ true) ks → Safely (λ (xs : List Input). ⊤) (captured_from captured ks)
+  pub captured_safe : (ks : List ℕ) (captured : List Input) → Each (λ k. k < length locals) ks → Each (λ k. sc.shows k ≡ true) ks
+      → Safely (λ xs. (more : List Input) × (xs ≡ captured ++ more) × KeptHave site.program.table site.types locals ks [] more) (captured_from captured ks)
   unfolding captured_from
-  captured_safe [] captured below shown = safe_give site inputs limit sc locals _ captured tt
+  captured_safe [] captured below shown = safe_give site inputs limit sc locals _ captured ([], sym (append_none captured), tt)
   captured_safe (k ∷ ks) captured below shown =
       let l = at_there locals k below.0 in
-      safe_then site inputs limit sc locals _ (local_at k) (λ v. captured_from (captured ++ v ∷ []) ks) (local_safe k l.0 l.1 shown.0) (λ v h. captured_safe ks (captured ++ v ∷ []) below.1 shown.1)
+      safe_then site inputs limit sc locals _ (local_at k) (λ v. captured_from (captured ++ v ∷ []) ks) (local_safe k l.0 l.1 shown.0)
+      (λ v h. safe_weaker site inputs limit sc locals (captured_from (captured ++ v ∷ []) ks) (captured_safe ks (captured ++ v ∷ []) below.1 shown.1)
+      (λ xs e. (v ∷ e.0, e.1 ∙ append_twice captured (v ∷ []) e.0, ((l.0, l.1, h), e.2))))
 
   -- an action block with what it keeps
-  pub handler_safe : (room code : ℕ) → Home site.program sc code → (b : BlockId) → Written sc.blocks locals b → Permitted site sc (mention.Block b) → Safely (λ h. ⊤) (handler (building site.program room code) b)
+  pub handler_safe : (whole room code : ℕ) → Home site.program whole limit sc code → (b : BlockId) → Written sc.blocks locals b → Permitted site sc (mention.Block b) → (ts : List Ty) → IsAction (context site sc) locals b ts
+      → Safely (HandlerFits site.program site.types whole) (handler (building site.program room code) b)
   unfolding handler
-  handler_safe room code home b w may =
-      let n = block_found site.program sc code home b w.code w.there in
-      safe_found site inputs limit sc locals _ (block_at site.program code b) (record { number = n.0; code = w.code }) (λ block. kept_from [] block.code.kept >>= λ kept. give (handler_with block.number kept)) n.1
-      (safe_then site inputs limit sc locals _ (kept_from [] w.code.kept) (λ kept. give (handler_with n.0 kept)) (kept_safe w.code.kept [] (kept_below sc.blocks locals b w) (kept_shown site sc b w.code w.there may))
-      (λ kept h. safe_give site inputs limit sc locals _ (handler_with n.0 kept) tt))
+  handler_safe whole room code home b w may ts acts =
+      let n = numbered_of site.program whole limit sc code home b w.code w.there in
+      let place = block_place site.program whole limit sc code home b w.code w.there in
+      safe_found site inputs limit sc locals _ (block_at site.program code b) (record { number = n; code = w.code }) (λ block. kept_from [] block.code.kept >>= λ kept. give (handler_with block.number kept))
+      (block_found site.program whole limit sc code home b w.code w.there)
+      (safe_then site inputs limit sc locals _ (kept_from [] w.code.kept) (λ kept. give (handler_with n kept)) (kept_safe w.code.kept [] (kept_below sc.blocks locals b w) (kept_shown site sc b w.code w.there may))
+      (λ kept h. safe_give site inputs limit sc locals _ (handler_with n kept) (record {
+        place = place;
+        locals = locals;
+        parameters = ts;
+        action = subst (λ (cx : Context). IsAction cx locals b ts) (same_context site whole limit sc code home) acts;
+        limit = limit;
+        is_limit = home.is_limit;
+        kept = subst (OwnHave site.program.table site.types locals limit w.code.kept) (sym h.1) h.2;
+      })))
 
   -- ---- places
 

@@ -26,6 +26,7 @@ fn built_in(alloc: Global) -> CoreMember
         code: Some(Code {
             outer: 0,
             kept: Items::new(alloc),
+            types: Items::new(alloc),
             parameters: 0,
             form: CodeForm::Value(Core::Literal(Value::Bool(true))),
         }),

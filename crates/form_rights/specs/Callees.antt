@@ -58,7 +58,7 @@ pub record MainCode (m : CoreMember) (parameters : List Ty) (of : CodeForm) : Ty
   pub kept : code.kept ≡ []
 
 pub main_of : (m : CoreMember) (ts : List Ty) (of : CodeForm) → IsMain m ts of → MainCode m ts of
-main_of m ts of (IsMain.main {c = c} has outer kept parameters) = record { code = c; has = has; is = refl; outer = outer; kept = kept }
+main_of m ts of (IsMain.main {c = c} has outer kept parameters types) = record { code = c; has = has; is = refl; outer = outer; kept = kept }
 
 -- the context of the code of a member
 abbrev pub member_context : Table → ℕ → Itself → CoreMember → Context

@@ -11,10 +11,10 @@ use Rattle.std.proofs.lemmas.Option.{slice_get_within}
 use Rattle.identity_path.specs.declared.input.Input.{Input}
 use Rattle.identity_path.specs.Cells.{CellMap}
 use Rattle.swift_core.specs.Codes.{Parts as Program}
-use Rattle.swift_core.specs.Context.{Context, Local}
+use Rattle.swift_core.specs.Context.{Context, Local, local_of}
 use Rattle.swift_core.specs.Mentions.{Mentions, stmt_mentions, form_mentions}
 use Rattle.swift_core.specs.Programs.{IsProgram}
-use Rattle.swift_core.specs.Typing.{Statements, in_body, with_parameters, Flow as HowItEnds, IsBlock, IsAction, GivesViews, itself_in, is_value, stands_in}
+use Rattle.swift_core.specs.Typing.{AreKept, Statements, in_body, with_parameters, Flow as HowItEnds, IsBlock, IsAction, GivesViews, itself_in, is_value, stands_in}
 use Rattle.swift_core.specs.Uses.{locals_of, with_use, first_uses, locals_used}
 use Rattle.swift_core.specs.declared.code.Code.{Code}
 use Rattle.swift_core.specs.declared.code.CodeForm.{CodeForm}
@@ -46,7 +46,8 @@ use Rattle.world_fits.specs.Frames.{HasAt, FrameHas}
 use Rattle.world_fits.specs.Laws.{ValueLaws, Known}
 use Rattle.world_fits.specs.Lists.{some_same, at_front, at_back, at_either, set_here, set_there}
 use Rattle.world_fits.specs.Right.{Right, then_right, done_right, under_right}
-use Rattle.world_fits.specs.Runs.{InputsHave, KeptHave, ExecFits}
+use Rattle.world_fits.specs.Kept.{KeptHave, kept_have}
+use Rattle.world_fits.specs.Runs.{InputsHave, ExecFits}
 use Rattle.world_fits.specs.Sites.{Site, Scope, context, Holds, LocalHas, LocalsFit, LiveFits, Fits, Allowed}
 use Rattle.form_rights.specs.Blocks.{block_right, joined_map}
 use Rattle.meaning_rights.specs.Forms.{all_right}
@@ -257,14 +258,15 @@ record Action (cx : Context) (locals : List Local) (ts : List Ty) (c : Code) (be
   typed : Statements cx None in_body (with_parameters locals ts) ss flow
   outer : c.outer ≡ length locals
   kept : c.kept ≡ locals_used before c.outer c.form
+  are : AreKept locals c.kept ts (map local_of c.types)
 
 action_of : (cx : Context) (locals : List Local) (b : BlockId) (ts : List Ty) (c : Code) → slice_get cx.blocks b.number ≡ Some c → IsAction cx locals b ts → Action cx locals ts c (take b.number cx.blocks)
 action_of cx locals b ts c at (IsAction.action {form = form} {ss = ss} {f = f} written is typed) = go form written is
   where
     go : (form : CodeForm) → IsBlock cx locals b ts form → form ≡ code.Statements ss → Action cx locals ts c (take b.number cx.blocks)
-    go form (IsBlock.written_here {c = d} there outer parameters kept) is =
+    go form (IsBlock.written_here {c = d} there outer parameters kept are) is =
         let same : d ≡ c = some_same d c (sym there ∙ at) in
-        subst (λ (x : Code). Action cx locals ts x (take b.number cx.blocks)) same (record { ss = ss; flow = f; is = is; typed = typed; outer = outer; kept = kept })
+        subst (λ (x : Code). Action cx locals ts x (take b.number cx.blocks)) same (record { ss = ss; flow = f; is = is; typed = typed; outer = outer; kept = kept; are = are })
 
 module _ (p : Program) (n : ℕ) (frame : Frame) (cells : CellMap) (f : ExecFits p n frame cells) where
   -- where the block runs, what its terms share, and the world at the beginning
@@ -295,7 +297,9 @@ module _ (p : Program) (n : ℕ) (frame : Frame) (cells : CellMap) (f : ExecFits
 
     block_fits : Fits site_of scope_of (with_parameters f.locals f.parameters) world_of
     block_fits = record {
-      here = places_fit site_of f.locals f.code.kept f.code.kept f.parameters frame.locals (absent f.code.outer) f.code.outer block_of.outer f.locals_have (begins site_of f.locals f.code.kept f.code.outer block_of.outer);
+      here = places_fit site_of f.locals f.code.kept f.code.kept f.parameters frame.locals (absent f.code.outer) f.code.outer block_of.outer
+          (kept_have p.table f.types f.locals f.code.kept f.parameters (map local_of f.code.types) frame.locals block_of.are f.locals_have)
+          (begins site_of f.locals f.code.kept f.code.outer block_of.outer);
       places = λ i t e. inr refl;
       itself = itself_fits site_of (itself_in f.declaration.kind) (Some f.d) None f.d f.declaration refl refl f.declared (view_kind f.declaration.kind) no_value;
       home = refl;

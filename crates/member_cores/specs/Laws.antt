@@ -1,5 +1,5 @@
 -- What holds of all members and defaults of environment keys.
-use Rattle.std.specs.Prelude.{◌≡◌, Some, None}
+use Rattle.std.specs.Prelude.{◌≡◌, [], Some, None}
 use Rattle.std.proofs.Common.{refl, ap, subst, ◌∙◌}
 use Rattle.swift_ast.specs.declared.piece.Entry.{Entry}
 use Rattle.swift_ast.specs.declared.piece.MemberForm.{MemberForm}
@@ -39,4 +39,4 @@ pub defaults_typed : DefaultsTyped
 unfolding TypedEntry
 defaults_typed table place x m fit none (n, (t, e, (c, w, q))) =
     IsTypedAt.typed_key none (found_so (FitsKey table place.at m) e (λ (key : EnvironmentKey) sk ty_is.
-    FitsKey.default_value sk ty_is (IsMain.main {c = code_of 0 (code.Value c)} (ap (λ (y : CoreMember). y.code) q) refl refl refl) (wanted_good x.value t m.blocks (inside table None stance.Outside) c fit w)))
+    FitsKey.default_value sk ty_is (IsMain.main {c = code_of [] (code.Value c)} (ap (λ (y : CoreMember). y.code) q) refl refl refl refl) (wanted_good x.value t m.blocks (inside table None stance.Outside) c fit w)))

@@ -1,6 +1,8 @@
 -- What the rules of members relate is well typed where their signatures say so.
 use Rattle.std.specs.Prelude.{◌≡◌, ℕ, Bool, true, false, List, [], ◌∷◌, length, map, Option, Some, None, slice_get}
-use Rattle.std.proofs.Common.{refl, sym, ap, subst, ◌∙◌}
+use Rattle.std.proofs.Common.{refl, sym, ap, subst, ◌∙◌, arith}
+use Rattle.std.proofs.lemmas.List.{length-map}
+use Rattle.std.proofs.lemmas.Option.{slice_get_within}
 use Rattle.swift_ast.specs.declared.piece.MemberForm.{MemberForm}
 use Rattle.swift_ast.specs.declared.piece.MemberForm.TheVariants as member
 use Rattle.swift_ast.specs.declared.piece.Param.{Param}
@@ -13,11 +15,12 @@ use Rattle.swift_core.specs.Context as cores
 use Rattle.swift_core.specs.Context.{Itself, initial_of}
 use Rattle.swift_core.specs.Types.{inside_at}
 use Rattle.swift_core.specs.Typing as typing
-use Rattle.swift_core.specs.Typing.{Flow, FitsSignature, GivesResult, GivesValue, HasInitial, HasPreference, IsMain, Items, itself_in, itself_in_function, in_body}
+use Rattle.swift_core.specs.Typing.{Flow, FitsSignature, GivesResult, GivesValue, HasInitial, HasPreference, IsMain, Items, PlacesStand, BlocksStand, itself_in, itself_in_function, in_body}
 use Rattle.swift_core.specs.declared.code.Code.{Code}
 use Rattle.swift_core.specs.declared.code.CodeForm.{CodeForm}
 use Rattle.swift_core.specs.declared.code.CodeForm.TheVariants as code
 use Rattle.swift_core.specs.declared.code.CoreMember.{CoreMember}
+use Rattle.swift_core.specs.declared.code.LocalType.{LocalType}
 use Rattle.swift_core.specs.declared.item.CoreItem.{CoreItem}
 use Rattle.swift_core.specs.declared.stmt.CoreStmt.{CoreStmt}
 use Rattle.swift_core.specs.declared.table.Argument.{Argument}
@@ -36,7 +39,9 @@ use Rattle.swift_core.specs.declared.table.Table.{Table}
 use Rattle.swift_core.specs.declared.ty.Ty.{Ty, out-Ty}
 use Rattle.type_base.specs.Claims.{some_is}
 use Rattle.type_base.specs.Context.{Context}
+use Rattle.type_base.specs.LocalTypes.{local_type}
 use Rattle.type_base.specs.Scopes.{entered}
+use Rattle.type_base.specs.declared.scope.Local.{Local}
 use Rattle.type_base.specs.declared.scope.Stance.{Stance}
 use Rattle.type_base.specs.declared.scope.Stance.TheVariants as stance
 use Rattle.stmt_rules.specs.Rules.{TypedBody}
@@ -46,18 +51,25 @@ use Rattle.view_rules.specs.Items.{Built}
 use Rattle.view_rules.specs.Scenes.{Scene}
 use Rattle.member_rules.specs.Shapes.{code_of, of_builder, inside, stance_of, function_stance}
 use Rattle.member_rules.specs.Members.{InitialOf, ReadsKey, ComputedOf, FunctionOf, BuilderOf, BuilderIn, BuilderFunctionOf, ReduceOf, PropertyOf, StatementsOf, CallOf, MemberOf}
-use Rattle.expr_cores.specs.Contexts.{itself_of, Fits}
+use Rattle.expr_cores.specs.Contexts.{core_locals, itself_of, Fits}
 use Rattle.post_cores.specs.Members.{found_so}
 use Rattle.value_cores.specs.Values.{wanted_good}
 use Rattle.stmt_cores.specs.Statements.{body_good}
-use Rattle.view_cores.specs.Blocks.{ViewIsSelf, front_same}
+use Rattle.view_cores.specs.Blocks.{ViewIsSelf, Between, front_same}
+use Rattle.view_cores.specs.Places.{all_valued}
 use Rattle.view_cores.specs.Laws.{ItemsTyped, builders_typed, scenes_typed}
+use Rattle.view_cores.specs.Types.{same_locals}
 use Rattle.member_cores.specs.Asked.{Starts, StartsAsWritten}
 use Rattle.member_cores.specs.Parameters.{parameters_good, folding, folding_good}
 
 -- the code of what is put together of its parts
-main_of : (m : CoreMember) (n : ℕ) (F : CodeForm) (ts : List Ty) → m.code ≡ Some (code_of n F) → n ≡ length ts → IsMain m ts F
-main_of m n F ts e same = IsMain.main {c = code_of n F} e refl refl same
+main_of : (m : CoreMember) (types : List LocalType) (F : CodeForm) (ts : List Ty) → m.code ≡ Some (code_of types F) → map cores.local_of types ≡ map cores.Local.valued ts → IsMain m ts F
+main_of m types F ts e same =
+    IsMain.main {c = code_of types F} e refl refl (sym (length-map types cores.local_of) ∙ ap (λ (ls : List cores.Local). length ls) same ∙ length-map ts cores.Local.valued) same
+
+-- the types of parameters that are locals
+parameter_types : (ls : List Local) (ts : List Ty) → core_locals ls ≡ map cores.Local.valued ts → map cores.local_of (map local_type ls) ≡ map cores.Local.valued ts
+parameter_types ls ts e = same_locals ls ∙ e
 
 -- code that gives a value where a result is asked for
 value_of : {cx : cores.Context} {ls : List cores.Local} {c : CodeForm} {t : Ty} → GivesResult cx ls c (Some t) → GivesValue cx ls c t
@@ -117,7 +129,7 @@ module _ (table : Table) (fit : Fits table) (d : ℕ) (owner : Declaration) (so 
   initial_good a t (Some e) m s is (u, te, (c, w, q)) = (
     u,
     te,
-    HasInitial.initial_written s (main_of m 0 (code.Value c) [] (ap (λ (x : CoreMember). x.code) q) refl) (wanted_good e u m.blocks (inside table (Some d) stance.Initial) c fit w),
+    HasInitial.initial_written s (main_of m [] (code.Value c) [] (ap (λ (x : CoreMember). x.code) q) refl) (wanted_good e u m.blocks (inside table (Some d) stance.Initial) c fit w),
   )
 
   binding_good : (k : Kind) (at : ℕ) (t : Option Ty) (m : CoreMember) → InitialOf t None (inside table (Some d) stance.Initial) m → FitsSignature table d k m (form.Binding at t)
@@ -128,7 +140,7 @@ module _ (table : Table) (fit : Fits table) (d : ℕ) (owner : Declaration) (so 
   unfolding InitialOf
   static_good k t e m (u, te, (c, w, q)) =
       subst (λ (x : Option Ty). FitsSignature table d k m (form.Static x)) (sym te)
-      (FitsSignature.static_value (main_of m 0 (code.Value c) [] (ap (λ (x : CoreMember). x.code) q) refl)
+      (FitsSignature.static_value (main_of m [] (code.Value c) [] (ap (λ (x : CoreMember). x.code) q) refl)
       (GivesValue.by_term (wanted_good e u m.blocks (inside table (Some d) stance.Initial) c fit w)))
 
   key_good : (k : Kind) (n : ℕ) (declared : Option TypeName) (m : CoreMember) → ReadsKey n declared (inside table (Some d) stance.Initial) m → FitsSignature table d k m (form.Environment n)
@@ -164,7 +176,7 @@ module _ (table : Table) (fit : Fits table) (d : ℕ) (owner : Declaration) (so 
       → (u : Ty) × (t ≡ Some u) × ((c : CodeForm) × IsMain m [] c × GivesValue (core_in table d (itself_of s) m.blocks) [] c u)
   unfolding ComputedOf
   computed_is t ss s m (u, te, (body, b, q)) =
-      (u, te, (code.Statements body, main_of m 0 (code.Statements body) [] (ap (λ (x : CoreMember). x.code) q) refl, value_of (body_good (Some u) ss m.blocks (inside table (Some d) s) body fit b)))
+      (u, te, (code.Statements body, main_of m [] (code.Statements body) [] (ap (λ (x : CoreMember). x.code) q) refl, value_of (body_good (Some u) ss m.blocks (inside table (Some d) s) body fit b)))
 
   static_computed_good : (k : Kind) (t : Option Ty) (ss : List Stmt) (m : CoreMember) → ComputedOf t ss (inside table (Some d) stance.Key) m → FitsSignature table d k m (form.Static t)
   static_computed_good k t ss m h =
@@ -185,7 +197,7 @@ module _ (table : Table) (fit : Fits table) (d : ℕ) (owner : Declaration) (so 
       let p = parameters_good signatures params at inner w in
       let there = record at { locals = inner.locals } in
       let g = body_good t ss m.blocks (entered there) body fit (subst (λ (x : Context). TypedBody t ss (entered x) body) p.same b) in
-      FitsSignature.function_body p.written (main_of m (length params) (code.Statements body) p.types (ap (λ (x : CoreMember). x.code) q) p.count)
+      FitsSignature.function_body p.written (main_of m (map local_type inner.locals) (code.Statements body) p.types (ap (λ (x : CoreMember). x.code) q) (parameter_types inner.locals p.types p.locals))
       (subst (λ (x : Itself). GivesResult (core_in table d x m.blocks) (map cores.Local.valued p.types) (code.Statements body) t) (same_in_function mutating k)
       (subst (λ (ls : List cores.Local). GivesResult (core_in table d (itself_of (function_stance mutating k)) m.blocks) ls (code.Statements body) t) p.locals g))
 
@@ -197,7 +209,9 @@ module _ (table : Table) (fit : Fits table) (d : ℕ) (owner : Declaration) (so 
       let there = folding t f.0 f.1.0 at in
       let g = without_value (body_good None ss m.blocks (entered there) body fit (subst (λ (x : Context). TypedBody None ss (entered x) body) f.1.1 b)) in
       found_so (FitsSignature table d (kind.Key n) m form.Reduce) kt (λ (key : PreferenceKey) sk ty_is.
-      FitsSignature.reduce refl (HasPreference.key sk ty_is) (main_of m 2 (code.Statements body) (t ∷ t ∷ []) (ap (λ (x : CoreMember). x.code) q) refl) g.1)
+      FitsSignature.reduce refl (HasPreference.key sk ty_is)
+      (main_of m (map local_type inner.locals) (code.Statements body) (t ∷ t ∷ []) (ap (λ (x : CoreMember). x.code) q)
+      (parameter_types inner.locals (t ∷ t ∷ []) (ap (λ (x : Context). core_locals x.locals) f.1.1))) g.1)
   reduce_good (kind.Data i) params ss m (t, kt, h) = cc
   reduce_good (kind.Enum i cases) params ss m (t, kt, h) = cc
   reduce_good kind.View params ss m (t, kt, h) = cc
@@ -205,9 +219,14 @@ module _ (table : Table) (fit : Fits table) (d : ℕ) (owner : Declaration) (so 
 
   -- ---- builders
 
-  -- the code gives views, which are well typed where `self` is this
+  -- the code gives views, which are well typed where `self` is this, and each block stands
   abbrev GivesItems : CoreMember → List Ty → Itself → Type 0
-  GivesItems m ts s = (items : List CoreItem) × IsMain m ts (code.Builder items) × Items (core_in table d s m.blocks) (map cores.Local.valued ts) items
+  GivesItems m ts s =
+      (items : List CoreItem) × IsMain m ts (code.Builder items) × Items (core_in table d s m.blocks) (map cores.Local.valued ts) items × BlocksStand (core_in table d s m.blocks)
+
+  -- the blocks that are added to none are all
+  blocks_stand : (s : Itself) (bs : List Code) → Between (core_in table d s bs) [] bs → BlocksStand (core_in table d s bs)
+  blocks_stand s bs between b c at = between b (omega arith) (slice_get_within bs b.number c at)
 
   builder_is : (R : ItemsRule) → ItemsTyped R → (ss : List Stmt) (m : CoreMember) → BuilderOf (R ss) (inside table (Some d) (stance_of owner.kind)) m → GivesItems m [] (itself_of (stance_of owner.kind))
   unfolding BuilderOf
@@ -215,7 +234,7 @@ module _ (table : Table) (fit : Fits table) (d : ℕ) (owner : Declaration) (so 
       let at = inside table (Some d) (stance_of owner.kind) in
       let g = typed ss at [] r fit view_self b in
       subst (λ (x : CoreMember). GivesItems x [] (itself_of (stance_of owner.kind))) (sym q)
-      (r.0, main_of (of_builder 0 r.0 r.1) 0 (code.Builder r.0) [] refl refl, g.1 r.1 (front_same r.1))
+      (r.0, main_of (of_builder [] r.0 r.1) [] (code.Builder r.0) [] refl refl, g.1 r.1 (front_same r.1), blocks_stand (itself_of (stance_of owner.kind)) r.1 (g.2 r.1 (front_same r.1) (λ i t e. cc)))
 
   builder_function_is : (signatures : List ParamSignature) (params : List Param) (ss : List Stmt) (m : CoreMember) → BuilderFunctionOf signatures params (Built ss) (inside table (Some d) (stance_of owner.kind)) m
       → (ts : List Ty) × (map (λ (p : ParamSignature). p.ty) signatures ≡ map Some ts) × GivesItems m ts (itself_of (stance_of owner.kind))
@@ -229,8 +248,11 @@ module _ (table : Table) (fit : Fits table) (d : ℕ) (owner : Declaration) (so 
         p.written,
         subst (λ (x : CoreMember). GivesItems x p.types (itself_of (stance_of owner.kind))) (sym q) (
           r.0,
-          main_of (of_builder (length params) r.0 r.1) (length params) (code.Builder r.0) p.types refl p.count,
+          main_of (of_builder (map local_type inner.locals) r.0 r.1) (map local_type inner.locals) (code.Builder r.0) p.types refl (parameter_types inner.locals p.types p.locals),
           subst (λ (ls : List cores.Local). Items (core_in table d (itself_of (stance_of owner.kind)) r.1) ls r.0) p.locals (g.1 r.1 (front_same r.1)),
+          blocks_stand (itself_of (stance_of owner.kind)) r.1
+              (g.2 r.1 (front_same r.1)
+              (subst (λ (ls : List cores.Local). PlacesStand (core_in table d (itself_of (stance_of owner.kind)) r.1) ls) (sym p.locals) (all_valued (core_in table d (itself_of (stance_of owner.kind)) r.1) p.types))),
         ),
       )
 
@@ -246,12 +268,14 @@ module _ (table : Table) (fit : Fits table) (d : ℕ) (owner : Declaration) (so 
   builder_good ss m h =
       let g = builder_in owner.kind ss m refl h in
       FitsSignature.builder_property g.1 (subst (λ (x : Itself). Items (core_in table d x m.blocks) [] g.0) (same_itself owner.kind) g.2)
+      (subst (λ (x : Itself). BlocksStand (core_in table d x m.blocks)) (same_itself owner.kind) g.3)
 
   builder_function_good : (signatures : List ParamSignature) (params : List Param) (ss : List Stmt) (m : CoreMember)
       → BuilderFunctionOf signatures params (Built ss) (inside table (Some d) (stance_of owner.kind)) m → FitsSignature table d owner.kind m (form.BuilderFunction signatures)
   builder_function_good signatures params ss m h =
       let g = builder_function_is signatures params ss m h in
       FitsSignature.builder_function g.1 g.2.1 (subst (λ (x : Itself). Items (core_in table d x m.blocks) (map cores.Local.valued g.0) g.2.0) (same_itself owner.kind) g.2.2)
+      (subst (λ (x : Itself). BlocksStand (core_in table d x m.blocks)) (same_itself owner.kind) g.2.3)
 
   -- ---- a member
 

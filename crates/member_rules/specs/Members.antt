@@ -1,5 +1,5 @@
 -- What the members of a declaration become: one rule for each form of a member.
-use Rattle.std.specs.Prelude.{◌≡◌, ℕ, Bool, true, false, not, ◌&&◌, List, [], ◌∷◌, length, codes, find, nat_eq, Option, Some, None, slice_get}
+use Rattle.std.specs.Prelude.{◌≡◌, ℕ, Bool, true, false, not, ◌&&◌, List, [], ◌∷◌, map, codes, find, nat_eq, Option, Some, None, slice_get}
 use Rattle.std.specs.Str.{bytes_eq}
 use Rattle.swift_core.specs.declared.ty.Ty.{Ty}
 use Rattle.swift_core.specs.Types.{same_ty}
@@ -35,6 +35,7 @@ use Rattle.type_base.specs.declared.scope.LocalKind.TheVariants as local
 use Rattle.type_base.specs.declared.scope.Stance.{Stance}
 use Rattle.type_base.specs.declared.scope.Stance.TheVariants as stance
 use Rattle.type_base.specs.Context.{Context}
+use Rattle.type_base.specs.LocalTypes.{local_type}
 use Rattle.type_base.specs.Names.{is_new}
 use Rattle.type_base.specs.Scopes.{with_local, entered}
 use Rattle.type_base.specs.TypeNames.{type_of}
@@ -76,7 +77,7 @@ ReadsKey k declared cx m =
 unfoldable pub ComputedOf : Option Ty → List Stmt → PartRule CoreMember
 ComputedOf t ss cx m =
     (u : Ty) × (t ≡ Some u) ×
-    ((body : List CoreStmt) × TypedBody (Some u) ss cx body × (m ≡ of_statements 0 body))
+    ((body : List CoreStmt) × TypedBody (Some u) ss cx body × (m ≡ of_statements [] body))
 
 -- ---- functions
 
@@ -100,13 +101,13 @@ unfoldable pub FunctionOf : List ParamSignature → Option Ty → List Param →
 FunctionOf signatures t params r ss cx m =
     (has_result r t ≡ true) ×
     ((inner : Context) × (with_parameters signatures params cx ≡ Some inner) ×
-    ((body : List CoreStmt) × TypedBody t ss (entered inner) body × (m ≡ of_statements (length params) body)))
+    ((body : List CoreStmt) × TypedBody t ss (entered inner) body × (m ≡ of_statements (map local_type inner.locals) body)))
 
 -- ---- views
 
 -- a property that gives views
 unfoldable pub BuilderOf : BuildRule (List CoreItem) → PartRule CoreMember
-BuilderOf R cx m = (r : List CoreItem × List Code) × R cx [] r × (m ≡ of_builder 0 r.0 r.1)
+BuilderOf R cx m = (r : List CoreItem × List Code) × R cx [] r × (m ≡ of_builder [] r.0 r.1)
 
 -- the builder of an app is its scene
 abbrev pub BuilderIn : Kind → List Stmt → BuildRule (List CoreItem)
@@ -117,7 +118,7 @@ BuilderIn _ ss = Built ss
 unfoldable pub BuilderFunctionOf : List ParamSignature → List Param → BuildRule (List CoreItem) → PartRule CoreMember
 BuilderFunctionOf signatures params R cx m =
     (inner : Context) × (with_parameters signatures params cx ≡ Some inner) ×
-    ((r : List CoreItem × List Code) × R (entered inner) [] r × (m ≡ of_builder (length params) r.0 r.1))
+    ((r : List CoreItem × List Code) × R (entered inner) [] r × (m ≡ of_builder (map local_type inner.locals) r.0 r.1))
 
 -- ---- preference keys
 
@@ -145,7 +146,7 @@ unfoldable pub ReduceOf : Kind → List Param → List Stmt → PartRule CoreMem
 ReduceOf k params ss cx m =
     (t : Ty) × (key_type cx.table k ≡ Some t) ×
     ((inner : Context) × (with_folding t params cx ≡ Some inner) ×
-    ((body : List CoreStmt) × TypedBody None ss (entered inner) body × (m ≡ of_statements 2 body)))
+    ((body : List CoreStmt) × TypedBody None ss (entered inner) body × (m ≡ of_statements (map local_type inner.locals) body)))
 
 -- ---- members
 

@@ -1,5 +1,5 @@
 -- What the search for the core of a member finds, and that it is what the rules relate.
-use Rattle.std.specs.Prelude.{ℕ, List, [], length, Option, Some, None, slice_get}
+use Rattle.std.specs.Prelude.{ℕ, List, [], map, Option, Some, None, slice_get}
 use Rattle.swift_core.specs.declared.ty.Ty.{Ty}
 use Rattle.swift_core.specs.declared.table.Table.{Table}
 use Rattle.swift_core.specs.declared.table.Kind.{Kind}
@@ -22,6 +22,7 @@ use Rattle.swift_ast.specs.declared.piece.Entry.{Entry}
 use Rattle.type_base.specs.declared.scope.Stance.{Stance}
 use Rattle.type_base.specs.declared.scope.Stance.TheVariants as stance
 use Rattle.type_base.specs.Context.{Context}
+use Rattle.type_base.specs.LocalTypes.{local_type}
 use Rattle.type_base.specs.Scopes.{entered}
 use Rattle.type_base.specs.Claims.{Reads, Then, and_then, when, reads_give, reads_none, reads_then, reads_when, reads_is, bool_is}
 use Rattle.type_base.specs.Rules.{FindPart, ExactPart}
@@ -53,7 +54,7 @@ unfolding reads_key ReadsKey Then
 reads_key_exact k declared cx = reads_then (reads_is _) (λ t. reads_when bool_is (reads_give _))
 
 unfoldable pub computed_of : Option Ty → List Stmt → FindPart CoreMember
-computed_of t ss cx = and_then t (λ u. and_then (find_body (Some u) ss cx) (λ body. Some (of_statements 0 body)))
+computed_of t ss cx = and_then t (λ u. and_then (find_body (Some u) ss cx) (λ body. Some (of_statements [] body)))
 
 pub computed_exact : (t : Option Ty) (ss : List Stmt) → ExactPart (computed_of t ss) (ComputedOf t ss)
 unfolding computed_of ComputedOf Then
@@ -62,7 +63,7 @@ computed_exact t ss cx = reads_then (reads_is t) (λ u. reads_then (body_exact (
 unfoldable pub function_of : List ParamSignature → Option Ty → List Param → Option ResultName → List Stmt → FindPart CoreMember
 function_of signatures t params r ss cx =
     when (has_result r t) (and_then (with_parameters signatures params cx) (λ inner.
-    and_then (find_body t ss (entered inner)) (λ body. Some (of_statements (length params) body))))
+    and_then (find_body t ss (entered inner)) (λ body. Some (of_statements (map local_type inner.locals) body))))
 
 pub function_exact : (signatures : List ParamSignature) (t : Option Ty) (params : List Param) (r : Option ResultName) (ss : List Stmt)
     → ExactPart (function_of signatures t params r ss) (FunctionOf signatures t params r ss)
@@ -71,7 +72,7 @@ function_exact signatures t params r ss cx =
     reads_when bool_is (reads_then (reads_is _) (λ inner. reads_then (body_exact t ss (entered inner)) (λ body. reads_give _)))
 
 unfoldable pub builder_of : FindBuild (List CoreItem) → FindPart CoreMember
-builder_of f cx = and_then (f cx []) (λ r. Some (of_builder 0 r.0 r.1))
+builder_of f cx = and_then (f cx []) (λ r. Some (of_builder [] r.0 r.1))
 
 pub builder_of_exact : {f : FindBuild (List CoreItem)} {R : BuildRule (List CoreItem)} → ExactBuild f R → ExactPart (builder_of f) (BuilderOf R)
 unfolding builder_of BuilderOf Then
@@ -87,7 +88,7 @@ builder_in_exact _ ss = built_exact ss
 
 unfoldable pub builder_function_of : List ParamSignature → List Param → FindBuild (List CoreItem) → FindPart CoreMember
 builder_function_of signatures params f cx =
-    and_then (with_parameters signatures params cx) (λ inner. and_then (f (entered inner) []) (λ r. Some (of_builder (length params) r.0 r.1)))
+    and_then (with_parameters signatures params cx) (λ inner. and_then (f (entered inner) []) (λ r. Some (of_builder (map local_type inner.locals) r.0 r.1)))
 
 pub builder_function_exact : {f : FindBuild (List CoreItem)} {R : BuildRule (List CoreItem)} (signatures : List ParamSignature) (params : List Param) → ExactBuild f R
     → ExactPart (builder_function_of signatures params f) (BuilderFunctionOf signatures params R)
@@ -97,7 +98,7 @@ builder_function_exact signatures params h cx = reads_then (reads_is _) (λ inne
 unfoldable pub reduce_of : Kind → List Param → List Stmt → FindPart CoreMember
 reduce_of k params ss cx =
     and_then (key_type cx.table k) (λ t. and_then (with_folding t params cx) (λ inner.
-    and_then (find_body None ss (entered inner)) (λ body. Some (of_statements 2 body))))
+    and_then (find_body None ss (entered inner)) (λ body. Some (of_statements (map local_type inner.locals) body))))
 
 pub reduce_exact : (k : Kind) (params : List Param) (ss : List Stmt) → ExactPart (reduce_of k params ss) (ReduceOf k params ss)
 unfolding reduce_of ReduceOf Then

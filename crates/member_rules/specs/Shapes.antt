@@ -1,5 +1,5 @@
 -- What a member becomes, put together from its parts, and the context that its code stands in.
-use Rattle.std.specs.Prelude.{ℕ, List, [], Option, Some, None, Bool, true, false}
+use Rattle.std.specs.Prelude.{ℕ, List, [], length, Option, Some, None, Bool, true, false}
 use Rattle.swift_core.specs.declared.table.Table.{Table}
 use Rattle.swift_core.specs.declared.table.Kind.{Kind}
 use Rattle.swift_core.specs.declared.table.Kind.TheVariants as kind
@@ -7,6 +7,7 @@ use Rattle.swift_core.specs.declared.code.Code.{Code}
 use Rattle.swift_core.specs.declared.code.CodeForm.{CodeForm}
 use Rattle.swift_core.specs.declared.code.CodeForm.TheVariants as form
 use Rattle.swift_core.specs.declared.code.CoreMember.{CoreMember}
+use Rattle.swift_core.specs.declared.code.LocalType.{LocalType}
 use Rattle.swift_core.specs.declared.term.Core.{Core}
 use Rattle.swift_core.specs.declared.stmt.CoreStmt.{CoreStmt}
 use Rattle.swift_core.specs.declared.item.CoreItem.{CoreItem}
@@ -16,21 +17,21 @@ use Rattle.type_base.specs.Context.{Context}
 
 -- ---- what a member becomes
 
--- the code of a member: nothing stands around it, and it has so many parameters
-abbrev pub code_of : ℕ → CodeForm → Code
-code_of parameters f = record { outer = 0; kept = []; parameters = parameters; form = f }
+-- the code of a member: nothing stands around it, and these are the types of its parameters
+abbrev pub code_of : List LocalType → CodeForm → Code
+code_of types f = record { outer = 0; kept = []; types = types; parameters = length types; form = f }
 
 abbrev pub without_code : CoreMember
 without_code = record { code = None; blocks = [] }
 
 abbrev pub of_value : Core → CoreMember
-of_value c = record { code = Some (code_of 0 (form.Value c)); blocks = [] }
+of_value c = record { code = Some (code_of [] (form.Value c)); blocks = [] }
 
-abbrev pub of_statements : ℕ → List CoreStmt → CoreMember
-of_statements parameters ss = record { code = Some (code_of parameters (form.Statements ss)); blocks = [] }
+abbrev pub of_statements : List LocalType → List CoreStmt → CoreMember
+of_statements types ss = record { code = Some (code_of types (form.Statements ss)); blocks = [] }
 
-abbrev pub of_builder : ℕ → List CoreItem → List Code → CoreMember
-of_builder parameters items blocks = record { code = Some (code_of parameters (form.Builder items)); blocks = blocks }
+abbrev pub of_builder : List LocalType → List CoreItem → List Code → CoreMember
+of_builder types items blocks = record { code = Some (code_of types (form.Builder items)); blocks = blocks }
 
 -- ---- where its code stands
 

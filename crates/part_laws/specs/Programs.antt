@@ -35,6 +35,7 @@ use Rattle.table_names.specs.Codes.{codes_stand, defaults_stand, enabled_is_bool
 use Rattle.table_places.specs.Places.{places_stand, cases_counted}
 use Rattle.table_places.specs.Preferences.{AllFit, keys_placed, preferences_stand}
 use Rattle.table_places.specs.Apps.{main_is_the_app}
+use Rattle.table_places.specs.Bodies.{bodies_stand}
 use Rattle.table_names.specs.Tables.{IsTableOf, IsSmall}
 use Rattle.part_laws.specs.Found.{HasCores, cores_length}
 use Rattle.part_laws.specs.Named.{declaration_named, member_named, key_named}
@@ -58,7 +59,7 @@ true_typed : (cx : Context) → Has cx [] (out-Core enabled_value) ty.Bool
 true_typed cx = subst (λ (c : CoreForm). Has cx [] c ty.Bool) (sym (outs-Literal (value.Bool true))) (Has.literal (true_value cx.table))
 
 main_value : IsMain enabled_member [] (code.Value enabled_value)
-main_value = IsMain.main {c = code_of 0 (code.Value enabled_value)} refl refl refl refl
+main_value = IsMain.main {c = code_of [] (code.Value enabled_value)} refl refl refl refl refl
 
 enabled_fits : (table : Table) → slice_get table.environment 0 ≡ Some is_enabled → FitsKey table 0 enabled_member
 enabled_fits table e = FitsKey.default_value e refl main_value (true_typed (record { table = table; owner = None; itself = Itself.no_self; blocks = [] }))
@@ -112,6 +113,7 @@ is_program members_typed defaults_typed source table cores s = record {
   cases = cases_counted source table s.is s.small;
   preferences = preferences_stand source table s.is s.small s.fit;
   keys = keys_placed source table s.is s.small;
+  bodies = bodies_stand source table s.is s.fit;
   shallow = s.shallow;
   pure = no_writer_pure (enabled_member ∷ cores) s.is s.small s.no_writer;
 }

@@ -1,10 +1,12 @@
 -- The first writer is found by the marks of those that reach a write.
-use Rattle.std.proofs.Common.{◌≡◌, ◌↔◌, ℕ, suc, ◌&&◌, Bool, true, false, List, map, Option, Some, None, refl, subst, ◌∙◌}
+use Rattle.std.proofs.Common.{◌≡◌, ◌↔◌, ℕ, suc, ◌&&◌, Bool, true, false, List, map, Option, Some, None, slice_get, refl, sym, ap, subst, ◌∙◌}
 use Rattle.swift_core.specs.declared.table.Table.{Table}
 use Rattle.swift_core.specs.declared.code.CoreMember.{CoreMember}
 use Rattle.call_reach.specs.declared.search.Conduct.{Conduct}
 use Rattle.swift_core.specs.Programs.{Reaches}
+use Rattle.swift_core.specs.Writers.{or_false, mark_at, AreWriters}
 use Rattle.call_reach.specs.Reaching.{Reaches as ConductReaches, is_marked}
+use Rattle.call_reach.specs.Reaching as reaching
 use Rattle.part_rules.specs.Writers.{WritesInBody, IsFirstWriter, is_body_of, signature_of}
 use Rattle.program_parts.specs.Marks.{is_writer, IsFirstLine, AreMarks, conduct_of}
 use Rattle.program_parts.proofs.Reached.{same_reach}
@@ -25,6 +27,17 @@ marks_known members conducts slice marks e d m i =
     let p : slice ≡ map conduct_of members = d ∙ e in
     let k : (is_marked marks i ≡ true) ↔ ConductReaches (map conduct_of members) i = subst (λ (v : List Conduct). (is_marked marks i ≡ true) ↔ ConductReaches v i) p (m i) in
     (λ h. (same_reach members i).0 (k.0 h), λ r. k.1 ((same_reach members i).1 r))
+
+same_mark : (o : Option Bool) → reaching.or_false o ≡ or_false o
+same_mark None = refl
+same_mark (Some b) = refl
+
+-- the marks as a program keeps them
+pub writers_known : (members slice : List CoreMember) (marks ws : List Bool) → AreMarks slice marks → slice ≡ members → ws ≡ marks → AreWriters members ws
+unfolding AreMarks AreWriters
+writers_known members slice marks ws m d e n =
+    let same : is_marked marks n ≡ mark_at ws n = same_mark (slice_get marks n) ∙ ap (λ (v : List Bool). mark_at v n) (sym e) in
+    subst (λ (b : Bool). (b ≡ true) ↔ Reaches members n) same (subst (λ (v : List CoreMember). (is_marked marks n ≡ true) ↔ Reaches v n) d (m n))
 
 is_so : (table : Table) (members : List CoreMember) (marks : List Bool) → AreMarks members marks → (i : ℕ) → is_writer table marks i ≡ true → WritesInBody table members i
 unfolding AreMarks

@@ -5,4 +5,4 @@ mod check;
 mod writers;
 
 pub use check::check_parts;
-pub use writers::find_writer;
+pub use writers::{find_writer, find_writers};

@@ -2,6 +2,7 @@
 ghost use Rattle.std.specs.Prelude.{◌≡◌, ◌+◌, ◌++◌, ◌<◌, ◌^◌, map, IfOk, OnOk, option_copied};
 ghost use Rattle.std.specs.Option.{option_to_list};
 ghost use Rattle.call_reach.specs.Reaching.{is_marked};
+ghost use Rattle.swift_core.specs.Writers.{AreWriters};
 ghost use Rattle.source_parts.specs.Parts.{part_at, parts_at};
 ghost use Rattle.part_rules.specs.Writers.{IsFirstWriter, is_body_of, member_line, member_lines, signature_of};
 ghost use Rattle.program_parts.specs.Marks.{AreMarks, IsFirst, IsFirstLine, calls_of, conduct_of, is_writer, number_of, writes_of};
@@ -170,6 +171,15 @@ fn marks_of(alloc: Global, members: &[CoreMember]) -> Result<Vec<bool>, AllocErr
     let conducts = conducts(alloc, members)?;
     let marks = reaching(alloc, conducts.as_slice())?;
     Ok(marks)
+}
+
+/// A mark for each member that reaches a write of a state slot or through a binding outside action blocks.
+#[tactic(auto, using(crate::proofs::Firsts::writers_known))]
+pub fn find_writers(alloc: Global, members: &Items<CoreMember>) -> Result<Items<bool>, AllocError>
+    ensures writers { IfOk result (λ ws. AreWriters members.now ws) }
+{
+    let marks = marks_of(alloc, members.as_slice())?;
+    Ok(Items::from_vec(marks))
 }
 
 /// The line of the first builder or computed property, in text order, that reaches a write of a state slot or through a

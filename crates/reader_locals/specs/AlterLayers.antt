@@ -15,7 +15,7 @@ use Rattle.swift_core.specs.declared.term.Piece.{Piece, out-Piece, fold-Piece}
 use Rattle.swift_core.specs.declared.term.Receiver.{Receiver, out-Receiver, fold-Receiver}
 use Rattle.swift_core.specs.declared.term.Target.{Target}
 use Rattle.world_fits.specs.Lists.{Each}
-use Rattle.reader_locals.specs.Alters.{Alters, TargetAlters, all_of, root_alters, core_step, piece_step, filling_step, receiver_step, hop_step, call_step, invocation_step, target_step, change_step, core_alters, filling_alters, target_alters}
+use Rattle.swift_core.specs.Alters.{Alters, TargetAlters, all_of, root_alters, core_step, piece_step, filling_step, receiver_step, hop_step, call_step, invocation_step, target_step, change_step, core_alters, filling_alters, target_alters}
 
 -- it is this place or one behind it
 abbrev pub From : ℕ → ℕ → Type 0

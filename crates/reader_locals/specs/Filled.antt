@@ -1,6 +1,7 @@
 -- A run that asks for the locals that a reader captured, beside the same run with what they hold in their place.
-use Rattle.std.specs.Prelude.{◌≡◌, ℕ, zero, suc, ◌+◌, ◌-◌, ◌≤◌, Bool, true, false, List, [], ◌∷◌, ◌++◌, length, map, take, Option, Some, None, Ok, Err, slice_get, slice_set, ◌⊎◌, ⊤}
-use Rattle.std.proofs.Common.{refl, sym, ap, subst, ◌∙◌, inl, inr}
+use Rattle.std.specs.Prelude.{◌≡◌, ℕ, zero, suc, ◌+◌, ◌-◌, ◌<◌, ◌≤◌, Bool, true, false, List, [], ◌∷◌, ◌++◌, length, map, take, Option, Some, None, Ok, Err, slice_get, slice_set, ◌⊎◌, ⊤}
+use Rattle.std.proofs.Common.{refl, sym, ap, subst, ◌∙◌, arith, inl, inr}
+use Rattle.std.proofs.lemmas.List.{length-append, length-set}
 use Rattle.identity_path.specs.declared.input.Input.{Input}
 use Rattle.identity_path.specs.declared.input.Input.TheVariants as input
 use Rattle.sv_value.specs.declared.value.Value.{Value}
@@ -12,7 +13,7 @@ use Rattle.core_means.specs.declared.parts.Local.{Local as Held}
 use Rattle.core_means.specs.declared.parts.Local.TheVariants as held
 use Rattle.core_means.specs.Asks.{World, Asks, Done, Trapped, Wrong, Ask, Doing, and_then, ◌>>=◌, ◌>>◌, give, trap, spend, spent, given, found, answered, choose}
 use Rattle.core_means.specs.Means.{held as all_held, push, within, framed}
-use Rattle.world_fits.specs.Lists.{one_more, some_same}
+use Rattle.world_fits.specs.Lists.{one_more, some_same, set_there}
 
 -- ---- what captured locals hold
 
@@ -40,10 +41,12 @@ module _ (inputs : List Input) where
   known_at (origin.Place p) = None
   known_at (origin.Environment k) = None
 
-  -- A body runs, and its locals from this place on are there.
+  -- A body runs. Its locals from this place on are there, and none before it is.
   pub record Settled (limit : ℕ) (w : World) : Type 0 where
     pub quiet : w.live ≡ None
     pub stands : (i : ℕ) (l : Held) → limit ≤ i → slice_get w.locals i ≡ Some l → filled_local l ≡ l
+    pub long : limit ≤ length w.locals
+    pub veiled : (i : ℕ) (x : Input) → i < limit → slice_get w.locals i ≡ Some (held.Holds x) → ⊥
 
   -- The first run asks for captured locals where the second has them, and else both do the same. Nothing is said where the second is
   -- wrong.
@@ -104,7 +107,7 @@ module _ (inputs : List Input) where
     calm_choose false m n h k = k
 
     pub with_fuel : (w : World) (n : ℕ) → Settled limit w → Settled limit (record w { fuel = n })
-    with_fuel w n settled = record { quiet = settled.quiet; stands = settled.stands }
+    with_fuel w n settled = record { quiet = settled.quiet; stands = settled.stands; long = settled.long; veiled = settled.veiled }
 
     pub calm_spend : {A : Type 0} (m : Doing A) → Calm m → Calm (spend >> m)
     unfolding and_then
@@ -164,19 +167,53 @@ module _ (inputs : List Input) where
   set_among (z ∷ xs) (suc i) zero x y e = inr e
   set_among (z ∷ xs) (suc i) (suc j) x y e = set_among xs i j x y e
 
+  longer : (limit n m : ℕ) → limit ≤ n → m ≡ n + 1 → limit ≤ m
+  longer limit n m h e = omega (arith, h, e)
+
+  as_long : (limit n m : ℕ) → limit ≤ n → m ≡ n → limit ≤ m
+  as_long limit n m h e = omega (arith, h, e)
+
+  no_end : (limit i n : ℕ) → limit ≤ n → i < limit → i ≡ n → ⊥
+  no_end limit i n h before e = omega (arith, h, before, e)
+
+  take_long : {X : Type 0} (n : ℕ) (xs : List X) (m : ℕ) → m ≤ n → m ≤ length xs → m ≤ length (take n xs)
+  take_long zero xs m h k = h
+  take_long (suc n) [] m h k = k
+  take_long (suc n) (x ∷ xs) zero h k = omega arith
+  take_long (suc n) (x ∷ xs) (suc m) h k = let rest = take_long n xs m (omega (arith, h)) (omega (arith, k)) in omega (arith, rest)
+
   module _ (limit : ℕ) where
     pub settled_push : (w : World) (v : Input) → Settled limit w → Settled limit (record w { locals = w.locals ++ held.Holds v ∷ [] })
-    settled_push w v settled = record { quiet = settled.quiet; stands = λ i l behind e. go i l behind (one_more w.locals (held.Holds v) i l e) }
+    settled_push w v settled = record {
+      quiet = settled.quiet;
+      stands = λ i l behind e. go i l behind (one_more w.locals (held.Holds v) i l e);
+      long = longer limit (length w.locals) (length (w.locals ++ held.Holds v ∷ [])) settled.long (length-append w.locals (held.Holds v ∷ []));
+      veiled = λ i x before e. old i x before (one_more w.locals (held.Holds v) i (held.Holds x) e);
+    }
       where
+        old : (i : ℕ) (x : Input) → i < limit → (slice_get w.locals i ≡ Some (held.Holds x)) ⊎ ((i ≡ length w.locals) × (held.Holds v ≡ held.Holds x)) → ⊥
+        old i x before (inl e) = settled.veiled i x before e
+        old i x before (inr e) = no_end limit i (length w.locals) settled.long before e.0
+
         go : (i : ℕ) (l : Held) → limit ≤ i → (slice_get w.locals i ≡ Some l) ⊎ ((i ≡ length w.locals) × (held.Holds v ≡ l)) → filled_local l ≡ l
         go i l behind (inl e) = settled.stands i l behind e
         go i l behind (inr e) = subst (λ (k : Held). filled_local k ≡ k) e.1 refl
 
-    pub settled_take : (w : World) (n : ℕ) → Settled limit w → Settled limit (record w { locals = take n w.locals })
-    settled_take w n settled = record { quiet = settled.quiet; stands = λ i l behind e. settled.stands i l behind (in_taken n w.locals i l e) }
+    pub settled_take : (w : World) (n : ℕ) → limit ≤ n → Settled limit w → Settled limit (record w { locals = take n w.locals })
+    settled_take w n many settled = record {
+      quiet = settled.quiet;
+      stands = λ i l behind e. settled.stands i l behind (in_taken n w.locals i l e);
+      long = take_long n w.locals limit many settled.long;
+      veiled = λ i x before e. settled.veiled i x before (in_taken n w.locals i (held.Holds x) e);
+    }
 
-    pub settled_set : (w : World) (i : ℕ) (v : Input) → Settled limit w → Settled limit (record w { locals = slice_set w.locals i (held.Holds v) })
-    settled_set w i v settled = record { quiet = settled.quiet; stands = λ j l behind e. go j l behind (set_among w.locals i j l (held.Holds v) e) }
+    pub settled_set : (w : World) (i : ℕ) (v : Input) → limit ≤ i → Settled limit w → Settled limit (record w { locals = slice_set w.locals i (held.Holds v) })
+    settled_set w i v there settled = record {
+      quiet = settled.quiet;
+      stands = λ j l behind e. go j l behind (set_among w.locals i j l (held.Holds v) e);
+      long = as_long limit (length w.locals) (length (slice_set w.locals i (held.Holds v))) settled.long (length-set w.locals i (held.Holds v));
+      veiled = λ j x before e. settled.veiled j x before (sym (set_there w.locals i j (held.Holds v) (λ same. no_end limit j i there before (sym same))) ∙ e);
+    }
       where
         go : (j : ℕ) (l : Held) → limit ≤ j → (held.Holds v ≡ l) ⊎ (slice_get w.locals j ≡ Some l) → filled_local l ≡ l
         go j l behind (inl e) = subst (λ (k : Held). filled_local k ≡ k) e refl
@@ -203,7 +240,7 @@ module _ (inputs : List Input) where
     calm_framed m h w settled =
         agree_then (λ x. ⊤) limit limit (m w) (m (fill w)) (λ x u. Done x (record u { locals = take (length w.locals) u.locals })) (λ x u. Done x (record u { locals = take (length (map filled_local w.locals)) u.locals }))
         (h w settled)
-        (λ x u p s. ends_with (λ x. ⊤) x (record u { locals = take (length w.locals) u.locals }) (take (length (map filled_local w.locals)) (map filled_local u.locals)) tt (settled_take u (length w.locals) s) (filled_take w u))
+        (λ x u p s. ends_with (λ x. ⊤) x (record u { locals = take (length w.locals) u.locals }) (take (length (map filled_local w.locals)) (map filled_local u.locals)) tt (settled_take u (length w.locals) settled.long s) (filled_take w u))
 
     pub filled_set : (w : World) (i : ℕ) (v : Input) → map filled_local (slice_set w.locals i (held.Holds v)) ≡ slice_set (map filled_local w.locals) i (held.Holds v)
     filled_set w i v = map_set w.locals i v
@@ -219,6 +256,15 @@ module _ (inputs : List Input) where
   held_open (v ∷ vs) zero l e = subst (λ (k : Held). filled_local k ≡ k) (some_same (held.Holds (input.Value v)) l e) refl
   held_open (v ∷ vs) (suc i) l e = held_open vs i l e
 
+  -- a body whose locals are these values
+  pub settled_held : (w : World) (vs : List Value) → w.locals ≡ all_held vs → w.live ≡ None → Settled zero w
+  settled_held w vs is quiet = record {
+    quiet = quiet;
+    stands = λ i l behind e. held_open vs i l (ap (λ (ls : List Held). slice_get ls i) (sym is) ∙ e);
+    long = omega arith;
+    veiled = λ i x before e. absurd (omega (arith, before));
+  }
+
   -- It has values as its locals. What is done after it has the locals that stood before.
   pub own_locals : {A B : Type 0} {P : A → Type 0} (Q : B → Type 0) (limit : ℕ) (vs : List Value) (itself : Option Value) (m : Doing A) (f g : A → Doing B) (w : World)
       → Settled limit w → CalmWith zero P m → ((x : A) (u : World) → P x → u.live ≡ None → Agree limit B Q (f x u) (g x (fill u)))
@@ -226,11 +272,11 @@ module _ (inputs : List Input) where
   own_locals {A = A} {P = P} Q limit vs itself m f g w settled h k =
       agree_then Q zero limit (m (record w { locals = all_held vs; itself = itself })) (m (record w { locals = all_held vs; itself = itself })) f g
       (subst (λ (ls : List Held). Agree zero A P (m (record w { locals = all_held vs; itself = itself })) (m (record w { locals = ls; itself = itself }))) (filled_held vs)
-      (h (record w { locals = all_held vs; itself = itself }) (record { quiet = settled.quiet; stands = λ i l behind e. held_open vs i l e })))
+      (h (record w { locals = all_held vs; itself = itself }) (settled_held (record w { locals = all_held vs; itself = itself }) vs refl settled.quiet)))
       (λ x u p s. k x u p s.quiet)
 
   pub settled_back : (limit : ℕ) (w u : World) (itself : Option Value) → Settled limit w → u.live ≡ None → Settled limit (record u { locals = w.locals; itself = itself })
-  settled_back limit w u itself settled quiet = record { quiet = quiet; stands = settled.stands }
+  settled_back limit w u itself settled quiet = record { quiet = quiet; stands = settled.stands; long = settled.long; veiled = settled.veiled }
 
   pub calm_within : {A : Type 0} (limit : ℕ) (vs : List Value) (itself : Option Value) (m : Doing A) → Calm zero m → Calm limit (within (all_held vs) itself m)
   unfolding within

@@ -11,7 +11,7 @@ use Rattle.swift_core.specs.declared.item.ItemCase.{ItemCase, fold-ItemCase}
 use Rattle.swift_core.specs.declared.item.Label.{Label, out-Label, fold-Label}
 use Rattle.swift_core.specs.declared.item.ModifierCall.{ModifierCall, fold-ModifierCall}
 use Rattle.swift_core.specs.declared.item.ViewCall.{ViewCall, out-ViewCall, fold-ViewCall}
-use Rattle.reader_locals.specs.Alters.{Alters, all_of, core_alters, filling_alters, target_alters, condition_alters, optional_alters, over_items_alters, item_step, label_step, view_step, item_arm_step, item_case_step, modifier_step, item_alters}
+use Rattle.swift_core.specs.Alters.{Alters, all_of, core_alters, filling_alters, target_alters, condition_alters, optional_alters, over_items_alters, item_step, label_step, view_step, item_arm_step, item_case_step, modifier_step, item_alters}
 
 abbrev pub label_alters : Label → Alters
 label_alters = fold-Label Alters Alters Alters Alters Alters Alters item_step label_step view_step item_arm_step item_case_step modifier_step

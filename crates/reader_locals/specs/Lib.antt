@@ -1,4 +1,3 @@
-pub mod Alters
 pub mod AlterLayers
 pub mod ItemAlters
 pub mod Filled

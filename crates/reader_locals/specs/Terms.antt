@@ -46,7 +46,7 @@ use Rattle.core_means.specs.declared.parts.Numbers.{Numbers}
 use Rattle.core_means.specs.declared.parts.Spot.{Spot}
 use Rattle.core_means.specs.declared.parts.Spot.TheVariants as spot
 use Rattle.world_fits.specs.Lists.{each_front, each_back, each_join}
-use Rattle.reader_locals.specs.Alters.{Alters, all_of, root_alters, core_alters, filling_alters, condition_alters, over_alters}
+use Rattle.swift_core.specs.Alters.{Alters, all_of, root_alters, core_alters, filling_alters, condition_alters, over_alters}
 use Rattle.reader_locals.specs.AlterLayers.{From, Beyond, piece_alters, hop_alters, core_layer, piece_layer, filling_layer, receiver_layer, hop_layer, call_layer, core_is, piece_is, filling_is, hop_is, invocation_is, change_is}
 use Rattle.reader_locals.specs.Filled.{fill, filled_local, filled_option, held_input, known_at, filled_get, Settled, Agree, agree_then, Calm, CalmWith, with_then, calm_then, calm_give, calm_given, calm_answered, calm_found, calm_choose, calm_push, same_there, settled_set, filled_set, ends_with, own_locals, settled_back, calm_within}
 
@@ -155,11 +155,11 @@ module _ (inputs : List Input) (limit : ℕ) where
   read_calm (spot.Itself hops) h w settled = calm_answered inputs limit (part_in hops w.itself) w settled
   read_calm (spot.Cell place) h w settled = plain_of_calm (origin.Place place) w settled
 
-  set_calm : (i : ℕ) (v : Value) → Calm inputs limit (set_local i v)
-  set_calm i v w settled = ends_with inputs limit (λ x. ⊤) tt _ _ tt (settled_set inputs limit w i (input.Value v) settled) (filled_set inputs limit w i (input.Value v))
+  set_calm : (i : ℕ) → limit ≤ i → (v : Value) → Calm inputs limit (set_local i v)
+  set_calm i there v w settled = ends_with inputs limit (λ x. ⊤) tt _ _ tt (settled_set inputs limit w i (input.Value v) there settled) (filled_set inputs limit w i (input.Value v))
 
   set_itself_calm : (v : Value) → Calm inputs limit (set_itself v)
-  set_itself_calm v w settled = Agree.ends tt (record { quiet = settled.quiet; stands = settled.stands })
+  set_itself_calm v w settled = Agree.ends tt (record { quiet = settled.quiet; stands = settled.stands; long = settled.long; veiled = settled.veiled })
 
   -- A body writes no cell.
   pub write_calm : (s : Spot) (v : Value) → SpotBeyond s → Calm inputs limit (write_spot s v)
@@ -167,7 +167,7 @@ module _ (inputs : List Input) (limit : ℕ) where
   write_calm (spot.Local i hops) v h w settled =
       subst (λ (o : Option Held). Agree inputs limit (Unit {0}) (λ x. ⊤) (and_then (answered (renewed hops v (held_value (slice_get w.locals i))) w) (set_local i)) (and_then (answered (renewed hops v (held_value o)) (fill inputs w)) (set_local i)))
       (sym (same_there inputs limit w i settled h))
-      (calm_then inputs limit (answered (renewed hops v (held_value (slice_get w.locals i)))) (set_local i) (calm_answered inputs limit (renewed hops v (held_value (slice_get w.locals i)))) (set_calm i) w settled)
+      (calm_then inputs limit (answered (renewed hops v (held_value (slice_get w.locals i)))) (set_local i) (calm_answered inputs limit (renewed hops v (held_value (slice_get w.locals i)))) (set_calm i h) w settled)
   write_calm (spot.Itself hops) v h w settled = calm_then inputs limit (answered (renewed hops v w.itself)) set_itself (calm_answered inputs limit (renewed hops v w.itself)) set_itself_calm w settled
   write_calm (spot.Cell p) v h w settled = subst (λ (o : Option Live). Agree inputs limit (Unit {0}) (λ x. ⊤) (put_in p v o w) (put_in p v o (fill inputs w))) (sym settled.quiet) Agree.fails
 

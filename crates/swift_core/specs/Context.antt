@@ -4,6 +4,8 @@ use Rattle.std.specs.List.{filter_map}
 use Rattle.swift_core.specs.declared.ty.Ty.{Ty}
 use Rattle.swift_core.specs.declared.ids.CodeId.{CodeId}
 use Rattle.swift_core.specs.declared.code.Code.{Code}
+use Rattle.swift_core.specs.declared.code.LocalType.{LocalType}
+use Rattle.swift_core.specs.declared.code.LocalType.TheVariants as local_type
 use Rattle.swift_core.specs.declared.table.Table.{Table}
 use Rattle.swift_core.specs.declared.table.Declaration.{Declaration}
 use Rattle.swift_core.specs.declared.table.Signature.{Signature}
@@ -17,6 +19,11 @@ use Rattle.swift_core.specs.declared.table.Initial.{Initial}
 pub data Local : Type 0 where
   valued : Ty → Local
   placed : Ty → Local
+
+-- a local, by what its code says that it has
+abbrev pub local_of : LocalType → Local
+local_of (local_type.Value t) = Local.valued t
+local_of (local_type.Place t) = Local.placed t
 
 -- What `self` is.
 pub data Itself : Type 0 where

@@ -3,8 +3,11 @@ pub mod Context
 pub mod Values
 pub mod Operators
 pub mod Mentions
+pub mod Alters
+pub mod Readers
 pub mod Uses
 pub mod Codes
 pub mod Firsts
 pub mod Typing
 pub mod Programs
+pub mod Writers

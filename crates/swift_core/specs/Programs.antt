@@ -1,5 +1,5 @@
 -- What holds of the declarations and the code of every program.
-use Rattle.std.specs.Prelude.{◌≡◌, ℕ, zero, suc, ◌+◌, ◌<◌, ◌≤◌, Bool, true, false, List, [], ◌∷◌, length, map, sum, Option, Some, None, slice_get}
+use Rattle.std.specs.Prelude.{◌≡◌, ℕ, zero, suc, ◌+◌, ◌<◌, ◌≤◌, Bool, true, false, List, [], ◌∷◌, length, map, sum, codes, Option, Some, None, slice_get}
 use Rattle.std.specs.List.{filter_map}
 use Rattle.std.specs.FinMap as fin
 use Rattle.sv_value.specs.declared.value.Value.{Value, out-Value}
@@ -103,6 +103,20 @@ is_body other = false
 
 -- ---- programs
 
+-- a view or an app
+abbrev pub has_body : Kind → Bool
+has_body kind.View = true
+has_body kind.App = true
+has_body other = false
+
+-- the property `body`, which gives views
+pub record HasBody (declaration : Declaration) : Type 0 where
+  pub at : ℕ
+  pub sign : Signature
+  pub stands : slice_get declaration.members at ≡ Some sign
+  pub name : sign.name ≡ codes "body"
+  pub gives_views : sign.form ≡ form.BuilderProperty
+
 -- What is known of a preference key: its declaration, the static with its default, and its `reduce`.
 pub record IsPreference (table : Table) (k : ℕ) (p : PreferenceKey) : Type 0 where
   pub declaration : Declaration
@@ -157,6 +171,8 @@ pub record IsProgram (table : Table) (members : List CoreMember) : Type 0 where
   pub keys : (d : ℕ) (declaration : Declaration) (k : ℕ)
       → slice_get table.declarations d ≡ Some declaration → declaration.kind ≡ kind.Key k
       → (p : PreferenceKey) × (slice_get table.preferences k ≡ Some p) × (p.declaration ≡ d)
+  -- each view has a body, and so has the app
+  pub bodies : (d : ℕ) (declaration : Declaration) → slice_get table.declarations d ≡ Some declaration → has_body declaration.kind ≡ true → HasBody declaration
   -- no data struct is deeper than 64, so none holds itself through structs, lists or optionals
   pub shallow : (d : ℕ) (declaration : Declaration) (names_identifiable : Bool)
       → slice_get table.declarations d ≡ Some declaration → declaration.kind ≡ kind.Data names_identifiable → IsWithin table 64 (Ty-F.Named d)

@@ -73,8 +73,9 @@ use Rattle.swift_core.specs.declared.term.Root.TheVariants as root
 use Rattle.swift_core.specs.declared.term.Target.{Target}
 use Rattle.swift_core.specs.declared.term.Unary.TheVariants as one
 use Rattle.swift_core.specs.Types.{inside_at, element_at, named_at}
-use Rattle.swift_core.specs.Context.{Context, Local, Itself, HasMember, OwnMember, Part, with_local, parts_of, initial_of}
+use Rattle.swift_core.specs.Context.{Context, Local, Itself, HasMember, OwnMember, Part, local_of, with_local, parts_of, initial_of}
 use Rattle.swift_core.specs.Mentions.{is_among_cells}
+use Rattle.swift_core.specs.Readers.{reader_keeps}
 use Rattle.swift_core.specs.Operators.{unary_type, binary_type, property_type, is_printed}
 use Rattle.swift_core.specs.Uses.{locals_used}
 use Rattle.swift_core.specs.Values.{HasValue}
@@ -411,12 +412,19 @@ mutual
 
 -- ---- blocks
 
+-- These are the locals at these places, in order, and after them parameters of these types.
+abbrev pub AreKept : List Local → List ℕ → List Ty → List Local → Type 0
+AreKept locals [] parameters ls = ls ≡ map Local.valued parameters
+AreKept locals (k ∷ ks) parameters [] = ⊥
+AreKept locals (k ∷ ks) parameters (l ∷ ls) = (slice_get locals k ≡ Some l) × AreKept locals ks parameters ls
+
 -- This code of the member is written where these locals stand, and has parameters of these types. What it keeps is judged by
--- the blocks before it: those within it stand there.
+-- the blocks before it: those within it stand there. Its types are those of what it keeps and of its parameters.
 pub data IsBlock (cx : Context) (locals : List Local) : BlockId → List Ty → CodeForm → Type 0 where
   written_here : {b : BlockId} {c : Code} {parameters : List Ty}
       → slice_get cx.blocks b.number ≡ Some c → c.outer ≡ length locals → c.parameters ≡ length parameters
-      → c.kept ≡ locals_used (take b.number cx.blocks) c.outer c.form → IsBlock cx locals b parameters c.form
+      → c.kept ≡ locals_used (take b.number cx.blocks) c.outer c.form → AreKept locals c.kept parameters (map local_of c.types)
+      → IsBlock cx locals b parameters c.form
 
 -- the locals, and then those of parameters of these types
 abbrev pub with_parameters : List Local → List Ty → List Local
@@ -583,10 +591,25 @@ mutual
         → HasPreference cx.table k t → IsAction cx locals b (t ∷ []) → IsModifier cx locals (modifier.OnPreferenceChange k b) [] false
     on_tap_gesture : {locals : List Local} {b : BlockId} → IsAction cx locals b [] → IsModifier cx locals (modifier.OnTapGesture b) [] false
 
-  -- The builder of a preference reader: its one parameter is the value of the key.
+  -- The builder of a preference reader: its one parameter is the value of the key. It alters nothing of what it sees.
   pub data IsReader (cx : Context) : List Local → BlockId → Ty → Type 0 where
     reader : {locals : List Local} {b : BlockId} {t : Ty} {form : CodeForm} {is : List CoreItem}
-        → IsBlock cx locals b (t ∷ []) form → form ≡ code.Builder is → Items cx (with_parameters locals (t ∷ [])) is → IsReader cx locals b t
+        → IsBlock cx locals b (t ∷ []) form → form ≡ code.Builder is → Items cx (with_parameters locals (t ∷ [])) is
+        → reader_keeps (length locals) b.number (code.Builder is) ≡ true → IsReader cx locals b t
+
+-- locals that hold places stand in a view
+abbrev pub PlacesStand : Context → List Local → Type 0
+PlacesStand cx locals = (i : ℕ) (t : Ty) → slice_get locals i ≡ Some (Local.placed t) → cx.itself ≡ Itself.a_view
+
+-- A block of a member that gives views stands somewhere in it, where some locals are: it is an action, or the builder of a
+-- preference reader.
+pub data BlockStands (cx : Context) (b : BlockId) : Type 0 where
+  an_action : {locals : List Local} {ts : List Ty} → IsAction cx locals b ts → BlockStands cx b
+  a_reader : {locals : List Local} {t : Ty} → PlacesStand cx locals → IsReader cx locals b t → BlockStands cx b
+
+-- each block of the member stands in it
+abbrev pub BlocksStand : Context → Type 0
+BlocksStand cx = (b : BlockId) (c : Code) → slice_get cx.blocks b.number ≡ Some c → BlockStands cx b
 
 -- ---- members
 
@@ -625,7 +648,9 @@ itself_in_function mutating k = if mutating then Itself.a_changed_value else its
 
 -- The code of a member stands on no locals, and has parameters of these types.
 pub data IsMain (m : CoreMember) (parameters : List Ty) : CodeForm → Type 0 where
-  main : {c : Code} → m.code ≡ Some c → c.outer ≡ 0 → c.kept ≡ [] → c.parameters ≡ length parameters → IsMain m parameters c.form
+  main : {c : Code}
+      → m.code ≡ Some c → c.outer ≡ 0 → c.kept ≡ [] → c.parameters ≡ length parameters → map local_of c.types ≡ map Local.valued parameters
+      → IsMain m parameters c.form
 
 -- the code gives a value of the type
 pub data GivesValue (cx : Context) (locals : List Local) : CodeForm → Ty → Type 0 where
@@ -668,10 +693,12 @@ pub data FitsSignature (table : Table) (d : ℕ) (k : Kind) (m : CoreMember) : S
       → FitsSignature table d k m (form.Function ps result mutating)
   builder_property : {is : List CoreItem}
       → IsMain m [] (code.Builder is) → Items (record { table = table; owner = Some d; itself = itself_in k; blocks = m.blocks }) [] is
+      → BlocksStand (record { table = table; owner = Some d; itself = itself_in k; blocks = m.blocks })
       → FitsSignature table d k m form.BuilderProperty
   builder_function : {ps : List ParamSignature} {ts : List Ty} {is : List CoreItem}
       → map (λ (p : ParamSignature). p.ty) ps ≡ map Some ts → IsMain m ts (code.Builder is)
       → Items (record { table = table; owner = Some d; itself = itself_in k; blocks = m.blocks }) (map Local.valued ts) is
+      → BlocksStand (record { table = table; owner = Some d; itself = itself_in k; blocks = m.blocks })
       → FitsSignature table d k m (form.BuilderFunction ps)
   -- The first local is the value so far, which is changed, and the second the next value.
   reduce : {n : ℕ} {t : Ty} {ss : List CoreStmt} {f : Flow}

@@ -1,7 +1,15 @@
 use crate::item::CoreItem;
 use crate::stmt::CoreStmt;
 use crate::term::Core;
+use crate::ty::Ty;
 use sv_items::Items;
+
+/// What a local has: a value of a type, or a place whose value has the type.
+#[derive(Drop)]
+pub enum LocalType {
+    Value(Ty),
+    Place(Ty),
+}
 
 /// A piece of code.
 ///
@@ -13,6 +21,8 @@ pub struct Code {
     pub outer: usize,
     /// The places of the locals among these that the code uses, each once, in the order of their first use.
     pub kept: Items<usize>,
+    /// What those of `kept` have, and then the parameters, in order.
+    pub types: Items<LocalType>,
     pub parameters: usize,
     pub form: CodeForm,
 }

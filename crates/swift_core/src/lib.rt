@@ -15,7 +15,7 @@ mod table;
 mod term;
 mod ty;
 
-pub use code::{Code, CodeForm, CoreMember};
+pub use code::{Code, CodeForm, CoreMember, LocalType};
 pub use ids::{BlockId, CodeId, PlaceRule, UnitId};
 pub use item::{
     Alignment, CoreItem, Edges, ForEachOver, IdRule, ItemArm, ItemCase, Label, ModifierCall,

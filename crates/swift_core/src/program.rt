@@ -1,7 +1,8 @@
-ghost use Rattle.std.specs.Prelude.{◌≡◌, Some, IsSome, IfOk};
+ghost use Rattle.std.specs.Prelude.{◌≡◌, ◌↔◌, Some, IsSome, IfOk, IsTrue};
 ghost use Rattle.std.specs.Option.{option_copied};
 ghost use Rattle.swift_core.specs.Codes.{code_at, member_at, owner_at, block_id};
-ghost use Rattle.swift_core.specs.Programs.{IsProgram};
+ghost use Rattle.swift_core.specs.Programs.{IsProgram, Reaches};
+ghost use Rattle.swift_core.specs.Writers.{AreWriters, mark_at};
 
 use crate::code::{Code, CoreMember};
 use crate::code_index::{CodeIndex, code_of, index_of, member_of, number_of};
@@ -18,6 +19,8 @@ pub struct Program {
     table: Table,
     members: Items<CoreMember>,
     index: CodeIndex,
+    /// For each member whether it reaches a write.
+    writers: Items<bool>,
 }
 
 impl Model for Program {
@@ -25,6 +28,7 @@ impl Model for Program {
     ghost use Rattle.swift_core.specs.Codes.{Parts, parts_code, homes_from};
     ghost use Rattle.swift_core.specs.Firsts.{firsts_from};
     ghost use Rattle.swift_core.specs.Programs.{IsProgram};
+    ghost use Rattle.swift_core.specs.Writers.{AreWriters};
 
     ghost Value = { Parts };
 
@@ -32,18 +36,20 @@ impl Model for Program {
 
     ghost view = { λ p. record { table = p.table; members = p.members } };
 
-    ghost invariant = { λ p. IsProgram p.table p.members × ((p.index.homes ≡ homes_from 0 p.members) × (p.index.firsts ≡ firsts_from 0 p.members)) };
+    ghost invariant = { λ p. IsProgram p.table p.members × ((p.index.homes ≡ homes_from 0 p.members) × (p.index.firsts ≡ firsts_from 0 p.members)) × AreWriters p.members p.writers };
 }
 
 impl Program {
     /// The program of these declarations and members: that of the built-in environment key first, then those of the table
-    /// in order.
+    /// in order. `writers` has a mark for each member that reaches a write.
     pub fn new(
         alloc: Global,
         table: Table,
         members: Items<CoreMember>,
+        writers: Items<bool>,
     ) -> Result<Program, AllocError>
         requires program { IsProgram table members }
+        requires writers { AreWriters members writers }
         ensures table { IfOk result (λ p. p.table ≡ table) }
         ensures members { IfOk result (λ p. p.members ≡ members) }
     {
@@ -52,6 +58,7 @@ impl Program {
             table,
             members,
             index,
+            writers,
         })
     }
 
@@ -113,5 +120,24 @@ impl Program {
         } else {
             self.table.members.get(member - 1)?.declaration
         }
+    }
+
+    /// Whether a piece of code reaches a write of a state slot or through a binding, outside action blocks. Only members do:
+    /// what a block writes is written in an action, or is among what its member writes.
+    #[tactic(auto, using(crate::proofs::Writers::marked))]
+    pub fn writes(&self, code: CodeId) -> bool
+        ensures value { IsTrue result ↔ Reaches self.now.members code.number }
+    {
+        mark_at(&self.writers, code.number)
+    }
+}
+
+/// The mark of this number, and false where there is none.
+fn mark_at(marks: &Items<bool>, at: usize) -> bool
+    ensures value { result ≡ mark_at marks.now at }
+{
+    match marks.get(at) {
+        Some(mark) => *mark,
+        None => false,
     }
 }

@@ -1,4 +1,5 @@
 pub mod Apps
+pub mod Bodies
 pub mod Members
 pub mod Places
 pub mod Preferences

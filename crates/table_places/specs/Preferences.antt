@@ -224,7 +224,7 @@ keys_placed source table is small d declaration k e h =
 abbrev pub Has : {X : Type 0} → (X → Bool) → List X → Type 0
 Has {X = X} test xs = (i : ℕ) × ((x : X) × (slice_get xs i ≡ Some x) × (test x ≡ true))
 
-has_any : {X : Type 0} (test : X → Bool) (xs : List X) → list_any test xs ≡ true → Has test xs
+pub has_any : {X : Type 0} (test : X → Bool) (xs : List X) → list_any test xs ≡ true → Has test xs
 has_any test [] e = cc
 has_any test (x ∷ xs) e = by (test x) refl e (has_any test xs)
   where

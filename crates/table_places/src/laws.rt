@@ -1,4 +1,5 @@
 ghost use Rattle.table_places.specs.Apps.{MainIsTheApp};
+ghost use Rattle.table_places.specs.Bodies.{BodiesStand};
 ghost use Rattle.table_places.specs.Places.{CasesCounted, PlacesStand};
 ghost use Rattle.table_places.specs.Preferences.{KeysPlaced, PreferencesStand};
 
@@ -25,4 +26,9 @@ pub fn preferences_stand()
 /// A law: the declaration with `@main` is the app, and there is no other.
 pub fn main_is_the_app()
     ensures law { MainIsTheApp }
+{}
+
+/// A law: each view and the app have a property `body` that gives views.
+pub fn bodies_stand()
+    ensures law { BodiesStand }
 {}

@@ -4,5 +4,6 @@
 mod laws;
 
 pub use laws::{
-    cases_are_counted, keys_are_placed, main_is_the_app, places_stand, preferences_stand,
+    bodies_stand, cases_are_counted, keys_are_placed, main_is_the_app, places_stand,
+    preferences_stand,
 };

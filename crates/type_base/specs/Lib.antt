@@ -2,6 +2,7 @@ pub mod Claims
 pub mod Context
 pub mod Depth
 pub mod Innermosts
+pub mod LocalTypes
 pub mod Names
 pub mod Promotion
 pub mod Rules

@@ -1,6 +1,7 @@
 //! Functions, and `reduce` of a preference key.
-ghost use Rattle.std.specs.Prelude.{◌≡◌, ◌&&◌, [], ◌∷◌, IfOk, option_copied};
+ghost use Rattle.std.specs.Prelude.{◌≡◌, ◌&&◌, [], ◌∷◌, map, IfOk, option_copied};
 ghost use Rattle.type_base.specs.Context.{seen};
+ghost use Rattle.type_base.specs.LocalTypes.{local_type};
 ghost use Rattle.type_base.specs.Rules.{Answers};
 ghost use Rattle.member_rules.specs.Members.{parameter, has_result, same_as, with_parameters, with_folding, key_type, inout_type, next_type};
 ghost use Rattle.type_check.specs.Scoped.{Scoped};
@@ -9,9 +10,10 @@ ghost use Rattle.member_rules.specs.Search.{function_of, reduce_of};
 use crate::properties::same_as;
 use crate::shapes::of_statements;
 use std::alloc::{AllocError, Global};
+use sv_items::Items;
 use swift_ast::{Param, ParamForm, ResultName, Stmt};
-use swift_core::{CoreMember, Kind, ParamSignature, Table, Ty};
-use type_base::{Fault, Local, LocalKind, Scope, declare, enter, type_of};
+use swift_core::{CoreMember, Kind, LocalType, ParamSignature, Table, Ty};
+use type_base::{Fault, Local, LocalKind, Scope, declare, enter, type_of, types_from};
 use type_stmt::check_body;
 
 /// The local of a parameter.
@@ -60,6 +62,13 @@ pub fn parameters(
     Ok(())
 }
 
+/// What the locals here have.
+pub fn types_here(alloc: Global, scope: &Scope<'_>) -> Result<Items<LocalType>, AllocError>
+    ensures value { IfOk result (λ ts. ts ≡ map local_type scope.now.locals) }
+{
+    types_from(alloc, scope.locals.as_slice(), 0)
+}
+
 /// Whether a result is written where the function has one, and none where it has none.
 fn has_result(written: &Option<ResultName>, ty: &Option<Ty>) -> bool
     ensures value { result ≡ has_result written.now ty.now }
@@ -88,9 +97,10 @@ pub fn function(
         return Err(Fault::NotTyped);
     }
     parameters(alloc, scope, signatures, params)?;
+    let types = types_here(alloc, scope)?;
     let _mark = enter(scope);
     let body = check_body(alloc, scope, ty.as_ref(), statements)?;
-    Ok(of_statements(alloc, params.len(), body))
+    Ok(of_statements(alloc, types, body))
 }
 
 /// The type of the values of a preference key.
@@ -171,7 +181,8 @@ pub fn reduce(
         return Err(Fault::NotTyped);
     };
     folding(alloc, scope, ty, params)?;
+    let types = types_here(alloc, scope)?;
     let _mark = enter(scope);
     let body = check_body(alloc, scope, None, statements)?;
-    Ok(of_statements(alloc, 2, body))
+    Ok(of_statements(alloc, types, body))
 }

@@ -7,6 +7,7 @@ ghost use Rattle.member_rules.specs.Search.{initial_of, reads_key, computed_of};
 
 use crate::shapes::{of_statements, of_value, without_code};
 use std::alloc::{AllocError, Global};
+use sv_items::Items;
 use swift_ast::{Expr, Stmt, TypeName};
 use swift_core::{CoreMember, Table, Ty};
 use type_base::{Fault, Scope, type_of};
@@ -108,5 +109,5 @@ pub fn computed(
         return Err(Fault::NotTyped);
     };
     let body = check_body(alloc, scope, Some(ty), statements)?;
-    Ok(of_statements(alloc, 0, body))
+    Ok(of_statements(alloc, Items::new(alloc), body))
 }

@@ -4,16 +4,18 @@ ghost use Rattle.member_rules.specs.Shapes as shape;
 
 use std::alloc::Global;
 use sv_items::Items;
-use swift_core::{Code, CodeForm, Core, CoreItem, CoreMember, CoreStmt, Kind, Table};
+use swift_core::{Code, CodeForm, Core, CoreItem, CoreMember, CoreStmt, Kind, LocalType, Table};
 use type_base::{Scope, Stance};
 
-/// The code of a member with so many parameters.
-fn code(alloc: Global, parameters: usize, form: CodeForm) -> Code
-    ensures value { result ≡ shape.code_of parameters form }
+/// The code of a member with parameters of these types.
+fn code(alloc: Global, types: Items<LocalType>, form: CodeForm) -> Code
+    ensures value { result ≡ shape.code_of types form }
 {
+    let parameters = types.len();
     Code {
         outer: 0,
         kept: Items::new(alloc),
+        types,
         parameters,
         form,
     }
@@ -32,30 +34,34 @@ pub fn of_value(alloc: Global, core: Core) -> CoreMember
     ensures value { result ≡ shape.of_value core }
 {
     CoreMember {
-        code: Some(code(alloc, 0, CodeForm::Value(core))),
+        code: Some(code(alloc, Items::new(alloc), CodeForm::Value(core))),
         blocks: Items::new(alloc),
     }
 }
 
-pub fn of_statements(alloc: Global, parameters: usize, statements: Items<CoreStmt>) -> CoreMember
-    ensures value { result ≡ shape.of_statements parameters statements }
+pub fn of_statements(
+    alloc: Global,
+    types: Items<LocalType>,
+    statements: Items<CoreStmt>,
+) -> CoreMember
+    ensures value { result ≡ shape.of_statements types statements }
 {
     CoreMember {
-        code: Some(code(alloc, parameters, CodeForm::Statements(statements))),
+        code: Some(code(alloc, types, CodeForm::Statements(statements))),
         blocks: Items::new(alloc),
     }
 }
 
 pub fn of_builder(
     alloc: Global,
-    parameters: usize,
+    types: Items<LocalType>,
     items: Items<CoreItem>,
     blocks: Items<Code>,
 ) -> CoreMember
-    ensures value { result ≡ shape.of_builder parameters items blocks }
+    ensures value { result ≡ shape.of_builder types items blocks }
 {
     CoreMember {
-        code: Some(code(alloc, parameters, CodeForm::Builder(items))),
+        code: Some(code(alloc, types, CodeForm::Builder(items))),
         blocks,
     }
 }

@@ -6,7 +6,7 @@ ghost use Rattle.view_rules.specs.Builds.{Builds};
 ghost use Rattle.view_rules.specs.Items.{find_built};
 ghost use Rattle.member_rules.specs.Search.{builder_in, builder_of, builder_function_of};
 
-use crate::functions::parameters;
+use crate::functions::{parameters, types_here};
 use crate::shapes::of_builder;
 use std::alloc::Global;
 use sv_items::Items;
@@ -45,7 +45,7 @@ pub fn builder(
 {
     let mut blocks = Items::new(alloc);
     let items = builder_in(alloc, scope, kind, statements, &mut blocks)?;
-    Ok(of_builder(alloc, 0, items, blocks))
+    Ok(of_builder(alloc, Items::new(alloc), items, blocks))
 }
 
 /// A function that gives views.
@@ -60,8 +60,9 @@ pub fn builder_function(
     ensures found { Answers result (builder_function_of signatures.now params.now (find_built statements.now) (seen scope.old)) }
 {
     parameters(alloc, scope, signatures, params)?;
+    let types = types_here(alloc, scope)?;
     let _mark = enter(scope);
     let mut blocks = Items::new(alloc);
     let items = check_builder(alloc, scope, statements, &mut blocks)?;
-    Ok(of_builder(alloc, params.len(), items, blocks))
+    Ok(of_builder(alloc, types, items, blocks))
 }

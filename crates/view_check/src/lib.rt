@@ -9,6 +9,7 @@ ghost use Rattle.view_check.specs.Answers.{answer_of};
 
 use file_verdict::verdict_of;
 use program_laws::every_program_is_one;
+use program_parts::find_writers;
 use std::alloc::Global;
 pub use swift_core::Program;
 use verdict_rules::Program as Spelt;
@@ -22,7 +23,8 @@ fn program_of(alloc: Global, spelt: Spelt) -> Result<Program, Refusal>
     ensures memory { IfErr result (λ why. why ≡ OutOfMemory) }
 {
     let Spelt { table, members } = spelt;
-    let program = Program::new(alloc, table, members)?;
+    let writers = find_writers(alloc, &members)?;
+    let program = Program::new(alloc, table, members, writers)?;
     Ok(program)
 }
 

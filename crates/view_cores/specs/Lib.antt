@@ -1,4 +1,6 @@
+pub mod Types
 pub mod Blocks
+pub mod Places
 pub mod Simple
 pub mod Repeats
 pub mod Views

@@ -26,7 +26,7 @@ use Rattle.view_rules.specs.Modifiers.{decorated, reading, on_kind, Decoration, 
 use Rattle.expr_cores.specs.Contexts.{core_context, core_locals, Fits}
 use Rattle.value_cores.specs.Values.{value_good}
 use Rattle.modifier_cores.specs.Values.{IsCall, is_call, preference_good, IsGood, AnyGood, value_call_by}
-use Rattle.view_cores.specs.Blocks.{ViewIsSelf, Grown, Front, ItemsGood, front_same, front_then, acts_good, acts_one_good, acts_two_good, reader_good}
+use Rattle.view_cores.specs.Blocks.{ViewIsSelf, Grown, Front, ItemsGood, front_same, front_then, between_same, between_then, acts_good, acts_one_good, acts_two_good, reader_good}
 use Rattle.view_cores.specs.Simple.{still_good}
 
 -- one modifier more
@@ -43,58 +43,59 @@ module _ (all : Blocks) (cx : Context) (fit : Fits cx.table) where
   without k h = is_call (core_context cx all) (core_locals cx.locals) k [] [] [] false h Given.none_given Content.no_content
 
   on_good : (name : Modifier) → ((b : BlockId) → IsAction (core_context cx all) (core_locals cx.locals) b [] → IsModifier (core_context cx all) (core_locals cx.locals) (on_kind name b) [] false)
-      → (args : List Arg) (tail : Tail) (bs : Blocks) (r : ModifierCall × Blocks) → OnCall name args tail cx bs r → Grown all bs r (IsGood all cx fit)
+      → (args : List Arg) (tail : Tail) (bs : Blocks) (r : ModifierCall × Blocks) → OnCall name args tail cx bs r → Grown all cx bs r (IsGood all cx fit)
   unfolding OnCall
   on_good name is args tail bs r (e, (ss, t, (b, a, q))) =
       let g = acts_good all cx ss bs b fit a in
-      subst (λ (y : ModifierCall × Blocks). Grown all bs y (IsGood all cx fit)) (sym q) (g.0, λ f. without (on_kind name b.0) (is b.0 (g.1 f)))
+      subst (λ (y : ModifierCall × Blocks). Grown all cx bs y (IsGood all cx fit)) (sym q) (g.0, λ f. without (on_kind name b.0) (is b.0 (g.1 f)), g.2)
 
   change_action_good : (t : Ty) (ss : List Stmt) (ws : Option (Word × Word)) (bs : Blocks) (r : BlockId × Blocks) → ChangeAction t ss ws cx bs r
-      → Grown all bs r (Changed (core_context cx all) (core_locals cx.locals) t)
+      → Grown all cx bs r (Changed (core_context cx all) (core_locals cx.locals) t)
   unfolding ChangeAction
-  change_action_good t ss None bs r h = let g = acts_good all cx ss bs r fit h in (g.0, λ f. IsModifier.on_change t (g.1 f))
-  change_action_good t ss (Some ws) bs r h = let g = acts_two_good all cx ws.0 ws.1 t ss bs r fit h in (g.0, λ f. IsModifier.on_change_of (g.1 f))
+  change_action_good t ss None bs r h = let g = acts_good all cx ss bs r fit h in (g.0, λ f. IsModifier.on_change t (g.1 f), g.2)
+  change_action_good t ss (Some ws) bs r h = let g = acts_two_good all cx ws.0 ws.1 t ss bs r fit h in (g.0, λ f. IsModifier.on_change_of (g.1 f), g.2)
 
-  change_good : (args : List Arg) (tail : Tail) (bs : Blocks) (r : ModifierCall × Blocks) → ChangeCall args tail cx bs r → Grown all bs r (IsGood all cx fit)
+  change_good : (args : List Arg) (tail : Tail) (bs : Blocks) (r : ModifierCall × Blocks) → ChangeCall args tail cx bs r → Grown all cx bs r (IsGood all cx fit)
   unfolding ChangeCall ChangeClosure
   change_good args tail bs r (e, s, (x, v, (c, t, (b, (ws, p, a), q)))) =
       let g = change_action_good x.1 (out-Closure c).body ws bs b a in
-      subst (λ (y : ModifierCall × Blocks). Grown all bs y (IsGood all cx fit)) (sym q) (
+      subst (λ (y : ModifierCall × Blocks). Grown all cx bs y (IsGood all cx fit)) (sym q) (
         g.0,
         λ f. is_call (core_context cx all) (core_locals cx.locals) (kind.OnChange b.0) (Some x.0 ∷ []) [] (needs x.1 ∷ []) false (g.1 f)
             (Given.one_given (value_good e all cx None x fit v) Given.none_given) Content.no_content,
+        g.2,
       )
 
-  preference_change_good : (args : List Arg) (tail : Tail) (bs : Blocks) (r : ModifierCall × Blocks) → PreferenceChange args tail cx bs r → Grown all bs r (IsGood all cx fit)
+  preference_change_good : (args : List Arg) (tail : Tail) (bs : Blocks) (r : ModifierCall × Blocks) → PreferenceChange args tail cx bs r → Grown all cx bs r (IsGood all cx fit)
   unfolding PreferenceChange
   preference_change_good args tail bs r (e, s, (key, p, (c, t, (b, a, q)))) =
       let g = acts_one_good all cx c.0 key.1 c.1 bs b fit a in
-      subst (λ (y : ModifierCall × Blocks). Grown all bs y (IsGood all cx fit)) (sym q)
-      (g.0, λ f. without (kind.OnPreferenceChange key.0 b.0) (IsModifier.on_preference_change (preference_good e cx key p) (g.1 f)))
+      subst (λ (y : ModifierCall × Blocks). Grown all cx bs y (IsGood all cx fit)) (sym q)
+      (g.0, λ f. without (kind.OnPreferenceChange key.0 b.0) (IsModifier.on_preference_change (preference_good e cx key p) (g.1 f)), g.2)
 
-  kept_good : (R : BuildRule ModifierCall) (bs : Blocks) (r : Option ModifierCall × Blocks) → ((x : ModifierCall × Blocks) → R cx bs x → Grown all bs x (IsGood all cx fit)) → Kept R cx bs r
-      → Grown all bs r (AnyGood all cx fit)
-  kept_good R bs r good (x, h, q) = let g = good x h in subst (λ (y : Option ModifierCall × Blocks). Grown all bs y (AnyGood all cx fit)) (sym q) (g.0, λ f. g.1 f)
+  kept_good : (R : BuildRule ModifierCall) (bs : Blocks) (r : Option ModifierCall × Blocks) → ((x : ModifierCall × Blocks) → R cx bs x → Grown all cx bs x (IsGood all cx fit)) → Kept R cx bs r
+      → Grown all cx bs r (AnyGood all cx fit)
+  kept_good R bs r good (x, h, q) = let g = good x h in subst (λ (y : Option ModifierCall × Blocks). Grown all cx bs y (AnyGood all cx fit)) (sym q) (g.0, λ f. g.1 f, g.2)
 
   module _ (k : ItemsRule) (good : ItemsGood k) (iv : ViewIsSelf cx) where
     decoration_good : (name : Modifier) → ((a : Alignment) → IsModifier (core_context cx all) (core_locals cx.locals) (decorated name a) [] true)
-        → (args : List Arg) (tail : Tail) (bs : Blocks) (r : ModifierCall × Blocks) → Decoration k name args tail cx bs r → Grown all bs r (IsGood all cx fit)
+        → (args : List Arg) (tail : Tail) (bs : Blocks) (r : ModifierCall × Blocks) → Decoration k name args tail cx bs r → Grown all cx bs r (IsGood all cx fit)
     unfolding Decoration
     decoration_good name is args tail bs r (a, l, (ss, t, (x, h, q))) =
         let g = good ss all cx bs x fit iv h in
-        subst (λ (y : ModifierCall × Blocks). Grown all bs y (IsGood all cx fit)) (sym q)
-        (g.0, λ f. is_call (core_context cx all) (core_locals cx.locals) (decorated name a) [] x.0 [] true (is a) Given.none_given (Content.content (g.1 f)))
+        subst (λ (y : ModifierCall × Blocks). Grown all cx bs y (IsGood all cx fit)) (sym q)
+        (g.0, λ f. is_call (core_context cx all) (core_locals cx.locals) (decorated name a) [] x.0 [] true (is a) Given.none_given (Content.content (g.1 f)), g.2)
 
     reader_call_good : (name : Modifier)
         → ((n : ℕ) (b : BlockId) (t : Ty) → HasPreference cx.table n t → IsReader (core_context cx all) (core_locals cx.locals) b t → IsModifier (core_context cx all) (core_locals cx.locals) (reading name n b) [] false)
-        → (args : List Arg) (tail : Tail) (bs : Blocks) (r : ModifierCall × Blocks) → ReaderCall k name args tail cx bs r → Grown all bs r (IsGood all cx fit)
+        → (args : List Arg) (tail : Tail) (bs : Blocks) (r : ModifierCall × Blocks) → ReaderCall k name args tail cx bs r → Grown all cx bs r (IsGood all cx fit)
     unfolding ReaderCall
     reader_call_good name is args tail bs r (e, s, (key, p, (c, t, (b, a, q)))) =
         let g = reader_good k good all cx c.0 key.1 c.1 bs b fit iv a in
-        subst (λ (y : ModifierCall × Blocks). Grown all bs y (IsGood all cx fit)) (sym q)
-        (g.0, λ f. without (reading name key.0 b.0) (is key.0 b.0 key.1 (preference_good e cx key p) (g.1 f)))
+        subst (λ (y : ModifierCall × Blocks). Grown all cx bs y (IsGood all cx fit)) (sym q)
+        (g.0, λ f. without (reading name key.0 b.0) (is key.0 b.0 key.1 (preference_good e cx key p) (g.1 f)), g.2)
 
-    content_good : (m : Modifier) (args : List Arg) (tail : Tail) (bs : Blocks) (r : ModifierCall × Blocks) → ContentCall k m args tail cx bs r → Grown all bs r (IsGood all cx fit)
+    content_good : (m : Modifier) (args : List Arg) (tail : Tail) (bs : Blocks) (r : ModifierCall × Blocks) → ContentCall k m args tail cx bs r → Grown all cx bs r (IsGood all cx fit)
     unfolding ContentCall
     content_good modifier.Overlay args tail bs r h = decoration_good modifier.Overlay (λ a. IsModifier.overlay) args tail bs r h
     content_good modifier.Background args tail bs r h = decoration_good modifier.Background (λ a. IsModifier.background) args tail bs r h
@@ -107,15 +108,15 @@ module _ (all : Blocks) (cx : Context) (fit : Fits cx.table) where
     content_good modifier.OnPreferenceChange args tail bs r h = preference_change_good args tail bs r h
     content_good _ args tail bs r h = absurd h
 
-    content_with_good : (m : Modifier) (args : List Arg) (tail : Option Tail) (bs : Blocks) (r : Option ModifierCall × Blocks) → ContentWith k m args tail cx bs r → Grown all bs r (AnyGood all cx fit)
+    content_with_good : (m : Modifier) (args : List Arg) (tail : Option Tail) (bs : Blocks) (r : Option ModifierCall × Blocks) → ContentWith k m args tail cx bs r → Grown all cx bs r (AnyGood all cx fit)
     content_with_good m args None bs r h = absurd h
     content_with_good m args (Some tail) bs r h = kept_good (ContentCall k m args tail) bs r (content_good m args tail bs) h
 
-    any_by : (m : Modifier) (args : List Arg) (tail : Option Tail) (b : Bool) (bs : Blocks) (r : Option ModifierCall × Blocks) → any_rule k m args tail b cx bs r → Grown all bs r (AnyGood all cx fit)
+    any_by : (m : Modifier) (args : List Arg) (tail : Option Tail) (b : Bool) (bs : Blocks) (r : Option ModifierCall × Blocks) → any_rule k m args tail b cx bs r → Grown all cx bs r (AnyGood all cx fit)
     any_by m args tail true bs r h = content_with_good m args tail bs r h
     any_by m args tail false bs r h = still_good (ValueCall m args tail) (AnyGood all cx fit) all cx bs r (value_call_by all cx fit m args tail) h
 
-    modifier_good : (p q : Part) (bs : Blocks) (r : Option ModifierCall × Blocks) → ModifierRule k p q cx bs r → Grown all bs r (AnyGood all cx fit)
+    modifier_good : (p q : Part) (bs : Blocks) (r : Option ModifierCall × Blocks) → ModifierRule k p q cx bs r → Grown all cx bs r (AnyGood all cx fit)
     unfolding ModifierRule AnyCall
     modifier_good p q bs r (w, d, (c, e, (m, n, h))) = any_by m c.0 c.1 (is_content m) bs r h
 
@@ -127,11 +128,11 @@ module _ (all : Blocks) (cx : Context) (fit : Fits cx.table) where
     -- the modifiers so far, and those of the parts
     pub modifiers_good : (done : List ModifierCall) (parts : List Part) (bs : Blocks) (r : List ModifierCall × Blocks)
         → (Front bs all → typing.Modifiers (core_context cx all) (core_locals cx.locals) done) → ModifiersRule k done parts cx bs r
-        → Grown all bs r (typing.Modifiers (core_context cx all) (core_locals cx.locals))
+        → Grown all cx bs r (typing.Modifiers (core_context cx all) (core_locals cx.locals))
     unfolding ModifiersRule
-    modifiers_good done [] bs r d q = subst (λ (y : List ModifierCall × Blocks). Grown all bs y (typing.Modifiers (core_context cx all) (core_locals cx.locals))) (sym q) (front_same bs, d)
+    modifiers_good done [] bs r d q = subst (λ (y : List ModifierCall × Blocks). Grown all cx bs y (typing.Modifiers (core_context cx all) (core_locals cx.locals))) (sym q) (front_same bs, d, λ f stand. between_same (core_context cx all) bs)
     modifiers_good done (p ∷ []) bs r d h = absurd h
     modifiers_good done (p ∷ q ∷ parts) bs r d (x, h, t) =
         let g = modifier_good p q bs x h in
         let more = modifiers_good (with_call done x.0) parts x.1 r (λ f. with_call_good done x.0 (d (front_then g.0 f)) (g.1 f)) t in
-        (front_then g.0 more.0, more.1)
+        (front_then g.0 more.0, more.1, λ f stand. between_then (core_context cx all) bs x.1 r.1 (g.2 (front_then more.0 f) stand) (more.2 f stand))

@@ -32,11 +32,11 @@ use Rattle.view_rules.specs.declared.names.ViewName.TheVariants as view
 use Rattle.expr_cores.specs.Contexts.{core_context, core_locals, itself_of, Fits}
 use Rattle.value_cores.specs.Values.{wanted_good, binding_good, fillings_good, arguments_good}
 use Rattle.modifier_cores.specs.Values.{slotted_good, may_take}
-use Rattle.view_cores.specs.Blocks.{ViewIsSelf, Grown, front_same}
+use Rattle.view_cores.specs.Blocks.{ViewIsSelf, Grown, front_same, between_same}
 
 -- a part without blocks
-pub still_good : {A : Type 0} (R : Context → A → Type 0) (P : A → Type 0) (all : Blocks) (cx : Context) (bs : Blocks) (r : A × Blocks) → ((x : A) → R cx x → P x) → Still R cx bs r → Grown all bs r P
-still_good {A = A} R P all cx bs r good (x, h, q) = subst (λ (y : A × Blocks). Grown all bs y P) (sym q) (front_same bs, λ f. good x h)
+pub still_good : {A : Type 0} (R : Context → A → Type 0) (P : A → Type 0) (all : Blocks) (cx : Context) (bs : Blocks) (r : A × Blocks) → ((x : A) → R cx x → P x) → Still R cx bs r → Grown all cx bs r P
+still_good {A = A} R P all cx bs r good (x, h, q) = subst (λ (y : A × Blocks). Grown all cx bs y P) (sym q) (front_same bs, λ f. good x h, λ f stand. between_same (core_context cx all) bs)
 
 -- ---- members that give views
 

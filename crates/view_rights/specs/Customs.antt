@@ -4,9 +4,9 @@ use Rattle.std.specs.List.{flat_map, cons_option}
 use Rattle.std.proofs.Common.{refl, sym, ap, subst, ◌∙◌}
 use Rattle.identity_path.specs.declared.input.Input.{Input}
 use Rattle.identity_path.specs.declared.input.Input.TheVariants as input
-use Rattle.sv_value.specs.declared.value.Value.TheVariants as whole
+use Rattle.sv_value.specs.declared.value.Value.TheVariants as value_form
 use Rattle.swift_ast.specs.declared.tree.Binder.{Binder}
-use Rattle.swift_core.specs.Context.{Local, Itself, Part, HasMember, part_at, parts_of, initial_of}
+use Rattle.swift_core.specs.Context.{Local, Itself, Part, HasMember, part_at, parts_of, initial_of, stored_at, slot_at, slots_of, inputs_of}
 use Rattle.swift_core.specs.Mentions.{joined, filling_mentions}
 use Rattle.swift_core.specs.Typing.{Fills, Fillings, FillingForm, FitsSignature, HasInitial, GivesValue}
 use Rattle.swift_core.specs.declared.code.CoreMember.{CoreMember}
@@ -39,15 +39,17 @@ use Rattle.form_rights.specs.Callees.{Constant, main_of, member_context, initial
 use Rattle.form_rights.specs.Calls.{constant_good}
 use Rattle.form_rights.specs.Mentions as mentions
 use Rattle.meaning_rights.specs.Laws.{terms_have_meanings}
-use Rattle.reader_locals.specs.Alters.{all_of, filling_alters}
+use Rattle.swift_core.specs.Alters.{all_of, filling_alters}
 use Rattle.reader_locals.specs.AlterLayers as alters
 use Rattle.reader_locals.specs.AlterLayers.{From, Beyond, flat_all}
 use Rattle.reader_locals.specs.Statements.{runs_calm, terms_calm}
 use Rattle.reader_locals.specs.Terms.{initial_calm}
 use Rattle.body_terms.specs.Homes.{Permitted, Permits}
-use Rattle.body_terms.specs.Nodes.{Makes, custom_safe}
+use Rattle.body_terms.specs.Nodes.{Makes, custom_safe, Fine}
 use Rattle.body_terms.specs.Safe.{safe_of, safe_then, safe_give, safe_found, safe_weaker}
 use Rattle.body_terms.specs.Terms.{Safely, eval_safe, place_safe}
+use Rattle.body_terms.specs.Gives.{PartHas, PartsHave, part_local}
+use Rattle.sv_value.specs.declared.value.Value.{Value}
 
 -- Each view has a body.
 abbrev pub ViewsHaveBodies : Table → Type 0
@@ -75,48 +77,76 @@ initial_value table d k m t a e (HasInitial.initial_written w begins h) = record
 initial_value table d k m t a e (HasInitial.initial_nil w i none) = absurd (cc (e, w))
 initial_value table d k m t a e (HasInitial.no_initial w none) = absurd (cc (e, w))
 
--- what stands in a part: a value, or a place for a binding
-abbrev pub part_local : Bool → Ty → Local
-part_local true t = Local.placed t
-part_local false t = Local.valued t
-
 module _ (site : Site) where
-  abbrev pub PartHas : Part → Input → Type 0
-  PartHas p x = (t : Ty) × (p.ty ≡ Some t) × Holds site (part_local p.is_binding t) x
+  abbrev pub HasPart : Part → Input → Type 0
+  HasPart = PartHas site.program.table site.types
 
-  abbrev pub PartsHave : List Part → List Input → Type 0
-  PartsHave [] [] = ⊤
-  PartsHave (p ∷ ps) (x ∷ xs) = PartHas p x × PartsHave ps xs
-  PartsHave ps xs = ⊥
+  abbrev pub HaveParts : List Part → List Input → Type 0
+  HaveParts = PartsHave site.program.table site.types
+
+  -- what was added to the inputs and to the initial values, for these parts
+  pub record Parted (stored slots : List Part) (so_far r : Filled) : Type 0 where
+    pub inputs : List Input
+    pub more_inputs : r.inputs ≡ so_far.inputs ++ inputs
+    pub inputs_have : HaveParts stored inputs
+    pub initials : List Value
+    pub more_initials : r.initials ≡ so_far.initials ++ initials
+    pub initials_have : HaveParts slots (map input.Value initials)
+
+  add_input : (stored slots : List Part) (p : Part) (so_far r : Filled) (x : Input) → HasPart p x → Parted stored slots (record so_far { inputs = so_far.inputs ++ x ∷ [] }) r → Parted (p ∷ stored) slots so_far r
+  add_input stored slots p so_far r x h parted = record {
+    inputs = x ∷ parted.inputs;
+    more_inputs = parted.more_inputs ∙ append_twice so_far.inputs (x ∷ []) parted.inputs;
+    inputs_have = (h, parted.inputs_have);
+    initials = parted.initials;
+    more_initials = parted.more_initials;
+    initials_have = parted.initials_have;
+  }
+
+  add_slot : (stored slots : List Part) (p : Part) (so_far r : Filled) (v : Value) → HasPart p (input.Value v) → Parted stored slots (record so_far { initials = so_far.initials ++ v ∷ [] }) r → Parted stored (p ∷ slots) so_far r
+  add_slot stored slots p so_far r v h parted = record {
+    inputs = parted.inputs;
+    more_inputs = parted.more_inputs;
+    inputs_have = parted.inputs_have;
+    initials = v ∷ parted.initials;
+    more_initials = parted.more_initials ∙ append_twice so_far.initials (v ∷ []) parted.initials;
+    initials_have = (h, parted.initials_have);
+  }
+
+  abbrev pub PartsOf : List Part → List Part → Filled → List Bool → List Input → Type 0
+  PartsOf stored slots so_far ks xs = (r : Filled) × (parted_from so_far ks xs ≡ Some r) × Parted stored slots so_far r
 
   -- A part of a signature of the form that a code has.
-  slot_part : (code : CodeId) (f : SignatureForm) (ps : List Part) (ks : List Bool) (xs : List Input) (so_far : Filled) → PartsHave (cons_option (part_at code f) ps) xs
-      → ((ys : List Input) (more : Filled) → PartsHave ps ys → (r : Filled) × (parted_from more ks ys ≡ Some r)) → (r : Filled) × (parted_from so_far (cons_option (slot_kind f) ks) xs ≡ Some r)
+  slot_part : (code : CodeId) (f : SignatureForm) (ps stored slots : List Part) (ks : List Bool) (xs : List Input) (so_far : Filled) → HaveParts (cons_option (part_at code f) ps) xs
+      → ((ys : List Input) (more : Filled) → HaveParts ps ys → PartsOf stored slots more ks ys) → PartsOf (cons_option (stored_at code f) stored) (cons_option (slot_at code f) slots) so_far (cons_option (slot_kind f) ks) xs
   unfolding parted_from
-  slot_part code (form.Stored n b t a) ps ks [] so_far h rest = absurd h
-  slot_part code (form.Stored n b t a) ps ks (x ∷ xs) so_far h rest = rest xs (record so_far { inputs = so_far.inputs ++ x ∷ [] }) h.1
-  slot_part code (form.Binding n t) ps ks [] so_far h rest = absurd h
-  slot_part code (form.Binding n t) ps ks (x ∷ xs) so_far h rest = rest xs (record so_far { inputs = so_far.inputs ++ x ∷ [] }) h.1
-  slot_part code (form.State n t a) ps ks [] so_far h rest = absurd h
-  slot_part code (form.State n t a) ps ks (input.Value v ∷ xs) so_far h rest = rest xs (record so_far { initials = so_far.initials ++ v ∷ [] }) h.1
-  slot_part code (form.State n t a) ps ks (input.Place p ∷ xs) so_far h rest = absurd h.0.2
-  slot_part code (form.Environment k) ps ks xs so_far h rest = rest xs so_far h
-  slot_part code (form.Static t) ps ks xs so_far h rest = rest xs so_far h
-  slot_part code (form.Case n) ps ks xs so_far h rest = rest xs so_far h
-  slot_part code (form.Computed t) ps ks xs so_far h rest = rest xs so_far h
-  slot_part code (form.Function params t m) ps ks xs so_far h rest = rest xs so_far h
-  slot_part code form.BuilderProperty ps ks xs so_far h rest = rest xs so_far h
-  slot_part code (form.BuilderFunction params) ps ks xs so_far h rest = rest xs so_far h
-  slot_part code form.Reduce ps ks xs so_far h rest = rest xs so_far h
-  slot_part code form.Unfit ps ks xs so_far h rest = rest xs so_far h
+  slot_part code (form.Stored n b t a) ps stored slots ks [] so_far h rest = absurd h
+  slot_part code (form.Stored n b t a) ps stored slots ks (x ∷ xs) so_far h rest =
+      let below = rest xs (record so_far { inputs = so_far.inputs ++ x ∷ [] }) h.1 in (below.0, below.1, add_input stored slots _ so_far below.0 x h.0 below.2)
+  slot_part code (form.Binding n t) ps stored slots ks [] so_far h rest = absurd h
+  slot_part code (form.Binding n t) ps stored slots ks (x ∷ xs) so_far h rest =
+      let below = rest xs (record so_far { inputs = so_far.inputs ++ x ∷ [] }) h.1 in (below.0, below.1, add_input stored slots _ so_far below.0 x h.0 below.2)
+  slot_part code (form.State n t a) ps stored slots ks [] so_far h rest = absurd h
+  slot_part code (form.State n t a) ps stored slots ks (input.Value v ∷ xs) so_far h rest =
+      let below = rest xs (record so_far { initials = so_far.initials ++ v ∷ [] }) h.1 in (below.0, below.1, add_slot stored slots _ so_far below.0 v h.0 below.2)
+  slot_part code (form.State n t a) ps stored slots ks (input.Place p ∷ xs) so_far h rest = absurd h.0.2
+  slot_part code (form.Environment k) ps stored slots ks xs so_far h rest = rest xs so_far h
+  slot_part code (form.Static t) ps stored slots ks xs so_far h rest = rest xs so_far h
+  slot_part code (form.Case n) ps stored slots ks xs so_far h rest = rest xs so_far h
+  slot_part code (form.Computed t) ps stored slots ks xs so_far h rest = rest xs so_far h
+  slot_part code (form.Function params t m) ps stored slots ks xs so_far h rest = rest xs so_far h
+  slot_part code form.BuilderProperty ps stored slots ks xs so_far h rest = rest xs so_far h
+  slot_part code (form.BuilderFunction params) ps stored slots ks xs so_far h rest = rest xs so_far h
+  slot_part code form.Reduce ps stored slots ks xs so_far h rest = rest xs so_far h
+  slot_part code form.Unfit ps stored slots ks xs so_far h rest = rest xs so_far h
 
-  pub parted : (ms : List Signature) (xs : List Input) (so_far : Filled) → PartsHave (parts_of ms) xs → (r : Filled) × (parted_from so_far (slot_kinds ms) xs ≡ Some r)
+  pub parted : (ms : List Signature) (xs : List Input) (so_far : Filled) → HaveParts (parts_of ms) xs → PartsOf (inputs_of ms) (slots_of ms) so_far (slot_kinds ms) xs
   unfolding parted_from
-  parted [] [] so_far h = (so_far, refl)
+  parted [] [] so_far h = (so_far, refl, record { inputs = []; more_inputs = sym (append_none so_far.inputs); inputs_have = tt; initials = []; more_initials = sym (append_none so_far.initials); initials_have = tt })
   parted [] (x ∷ xs) so_far h = absurd h
-  parted (s ∷ ms) xs so_far h = slot_part s.code s.form (parts_of ms) (slot_kinds ms) xs so_far h (λ ys more k. parted ms ys more k)
+  parted (s ∷ ms) xs so_far h = slot_part s.code s.form (parts_of ms) (inputs_of ms) (slots_of ms) (slot_kinds ms) xs so_far h (λ ys more k. parted ms ys more k)
 
-module _ (site : Site) (known : Known site) (inputs : List Input) (limit : ℕ) (sc : Scope) (locals : List Local) where
+module _ (site : Site) (known : Known site) (inputs : List Input) (whole limit : ℕ) (sc : Scope) (locals : List Local) where
   -- ---- initial values
 
   constant_safe : (room d n : ℕ) (k : Kind) (m : CoreMember) (t : Ty) → Constant site.program.table d k m t → slice_get site.program.members n ≡ Some m
@@ -138,7 +168,7 @@ module _ (site : Site) (known : Known site) (inputs : List Input) (limit : ℕ) 
   state_fits table d k m n t a e (FitsSignature.state h) = initial_value table d k m t a e h
 
   abbrev GivesInitial : ℕ → Part → CodeId → Type 0
-  GivesInitial room p id = Safely site known inputs limit sc locals (PartHas site p) (initial (inner site.program room) id.number >>= λ v. give (input.Value v))
+  GivesInitial room p id = Safely site known inputs limit sc locals (HasPart site p) (initial (inner site.program room) id.number >>= λ v. give (input.Value v))
 
   initial_safe : (room d : ℕ) (p : Part) (id : CodeId) → IsPart site.program.table d p → initial_of p.argument ≡ Some initial_form.Written → p.code ≡ id → GivesInitial room p id
   initial_safe room d p id s written code = go s.sign.form refl
@@ -196,9 +226,9 @@ module _ (site : Site) (known : Known site) (inputs : List Input) (limit : ℕ) 
   -- what fills a part: an argument, or nothing where it has an initial value
   abbrev ArgumentHas : FillingForm → Part → Option Input → Type 0
   ArgumentHas (Filling-F.Given c) p None = ⊥
-  ArgumentHas (Filling-F.Given c) p (Some x) = PartHas site p x
+  ArgumentHas (Filling-F.Given c) p (Some x) = HasPart site p x
   ArgumentHas (Filling-F.Place t) p None = ⊥
-  ArgumentHas (Filling-F.Place t) p (Some x) = PartHas site p x
+  ArgumentHas (Filling-F.Place t) p (Some x) = HasPart site p x
   ArgumentHas (Filling-F.Initial id) p None = ⊤
   ArgumentHas (Filling-F.Initial id) p (Some x) = ⊥
   ArgumentHas Filling-F.Nil p None = ⊤
@@ -209,7 +239,7 @@ module _ (site : Site) (known : Known site) (inputs : List Input) (limit : ℕ) 
   ArgumentsHave (f ∷ fs) (p ∷ ps) (o ∷ os) = ArgumentHas (out-Filling f) p o × ArgumentsHave fs ps os
   ArgumentsHave fs ps os = ⊥
 
-  of_kind : (p : Part) (b : Bool) (t : Ty) (x : Input) → p.is_binding ≡ b → p.ty ≡ Some t → Holds site (part_local b t) x → PartHas site p x
+  of_kind : (p : Part) (b : Bool) (t : Ty) (x : Input) → p.is_binding ≡ b → p.ty ≡ Some t → Holds site (part_local b t) x → HasPart site p x
   of_kind p b t x is typed h = (t, typed, subst (λ (c : Bool). Holds site (part_local c t) x) (sym is) h)
 
   module _ (room code : ℕ) where
@@ -237,7 +267,7 @@ module _ (site : Site) (known : Known site) (inputs : List Input) (limit : ℕ) 
         (λ os e. (o ∷ e.0, e.1 ∙ append_twice so_far (o ∷ []) e.0, (k, e.2))))
 
     filled_safe : (d : ℕ) (layer : FillingForm) (p : Part) (o : Option Input) → IsPart site.program.table d p → Fills (context site sc) locals layer p → ArgumentHas layer p o
-        → Safely site known inputs limit sc locals (PartHas site p) (filled_at (building site.program room code) layer o)
+        → Safely site known inputs limit sc locals (HasPart site p) (filled_at (building site.program room code) layer o)
     filled_safe d layer p None s (Fills.given is typed h) k = absurd k
     filled_safe d layer p (Some x) s (Fills.given is typed h) k = safe_give site inputs limit sc locals _ x k
     filled_safe d layer p None s (Fills.place is typed h) k = absurd k
@@ -245,7 +275,7 @@ module _ (site : Site) (known : Known site) (inputs : List Input) (limit : ℕ) 
     filled_safe d layer p None s (Fills.written {id = id} w is) k = initial_safe room d p id s w is
     filled_safe d layer p (Some x) s (Fills.written w is) k = absurd k
     filled_safe d layer p None s (Fills.without {o = o} {t = t} w typed inside) k =
-        safe_give site inputs limit sc locals _ (input.Value (whole.Opt None)) (nil_has d p o t s w typed ((known.laws.plain site.program.table).nils o t inside))
+        safe_give site inputs limit sc locals _ (input.Value (value_form.Opt None)) (nil_has d p o t s w typed ((known.laws.plain site.program.table).nils o t inside))
       where
         -- a binding has no initial value
         no_binding : (f : SignatureForm) (q : Part) (c : CodeId) → part_at c f ≡ Some q → initial_of q.argument ≡ Some initial_form.Nil → q.is_binding ≡ false
@@ -262,12 +292,12 @@ module _ (site : Site) (known : Known site) (inputs : List Input) (limit : ℕ) 
         no_binding form.Reduce q c e i = absurd (cc e)
         no_binding form.Unfit q c e i = absurd (cc e)
 
-        nil_has : (d : ℕ) (p : Part) (o t : Ty) → IsPart site.program.table d p → initial_of p.argument ≡ Some initial_form.Nil → p.ty ≡ Some o → ValueHas site o (whole.Opt None) → PartHas site p (input.Value (whole.Opt None))
-        nil_has d p o t s w typed h = of_kind p false o (input.Value (whole.Opt None)) (no_binding s.sign.form p s.sign.code s.is w) typed h
+        nil_has : (d : ℕ) (p : Part) (o t : Ty) → IsPart site.program.table d p → initial_of p.argument ≡ Some initial_form.Nil → p.ty ≡ Some o → ValueHas site o (value_form.Opt None) → HasPart site p (input.Value (value_form.Opt None))
+        nil_has d p o t s w typed h = of_kind p false o (input.Value (value_form.Opt None)) (no_binding s.sign.form p s.sign.code s.is w) typed h
     filled_safe d layer p (Some x) s (Fills.without w typed inside) k = absurd k
 
     fields_safe : (d : ℕ) (fs : List Filling) (ps : List Part) (os : List (Option Input)) (so_far : List Input) → Each (IsPart site.program.table d) ps → Fillings (context site sc) locals fs ps → ArgumentsHave fs ps os
-        → Safely site known inputs limit sc locals (λ xs. (more : List Input) × (xs ≡ so_far ++ more) × PartsHave site ps more) (filled_from (building site.program room code) so_far fs os)
+        → Safely site known inputs limit sc locals (λ xs. (more : List Input) × (xs ≡ so_far ++ more) × HaveParts site ps more) (filled_from (building site.program room code) so_far fs os)
     unfolding filled_from filled
     fields_safe d fs ps [] so_far parts (Fillings.no_fillings) h = safe_give site inputs limit sc locals _ so_far ([], sym (append_none so_far), tt)
     fields_safe d fs ps (o ∷ os) so_far parts (Fillings.no_fillings) h = absurd h
@@ -278,7 +308,7 @@ module _ (site : Site) (known : Known site) (inputs : List Input) (limit : ℕ) 
         (λ xs e. (x ∷ e.0, e.1 ∙ append_twice so_far (x ∷ []) e.0, (y, e.2))))
 
     fillings_safe : (d : ℕ) (declaration : Declaration) (fs : List Filling) → slice_get site.program.table.declarations d ≡ Some declaration → Fillings (context site sc) locals fs (parts_of declaration.members)
-        → Permits site sc (flat_map filling_mentions fs) → Beyond limit (flat_map filling_alters fs) → Safely site known inputs limit sc locals (PartsHave site (parts_of declaration.members)) (fillings (building site.program room code) fs)
+        → Permits site sc (flat_map filling_mentions fs) → Beyond limit (flat_map filling_alters fs) → Safely site known inputs limit sc locals (HaveParts site (parts_of declaration.members)) (fillings (building site.program room code) fs)
     unfolding fillings
     fillings_safe d declaration fs declared h may own =
         let parts = parts_stand site.program.table d declaration.members (λ at s e. HasMember.member at declared e) in
@@ -286,18 +316,18 @@ module _ (site : Site) (known : Known site) (inputs : List Input) (limit : ℕ) 
         (arguments_safe fs (parts_of declaration.members) [] h (subst (Permits site sc) (joined_map filling_mentions fs) may) (subst (Beyond limit) (flat_all filling_alters fs) own))
         (λ os e. safe_weaker site inputs limit sc locals (filled_from (building site.program room code) [] fs os)
         (fields_safe d fs (parts_of declaration.members) os [] parts h (subst (ArgumentsHave fs (parts_of declaration.members)) (sym e.1) e.2))
-        (λ xs k. subst (PartsHave site (parts_of declaration.members)) (sym k.1) k.2))
+        (λ xs k. subst (HaveParts site (parts_of declaration.members)) (sym k.1) k.2))
 
     -- The node of a custom view.
     pub custom_view_safe : ViewsHaveBodies site.program.table → (d : ℕ) (declaration : Declaration) (fs : List Filling) → slice_get site.program.table.declarations d ≡ Some declaration → declaration.kind ≡ kind.View
         → Fillings (context site sc) locals fs (parts_of declaration.members) → Permits site sc (flat_map filling_mentions fs) → Beyond limit (flat_map filling_alters fs)
-        → Makes site inputs limit sc locals (custom_view (building site.program room code) d fs)
+        → Makes site inputs whole limit sc locals (Fine site inputs whole limit sc locals) (custom_view (building site.program room code) d fs)
     unfolding custom_view custom_node
     custom_view_safe bodies d declaration fs declared is h may own =
         safe_then site inputs limit sc locals _ (fillings (building site.program room code) fs) (λ xs. custom_node (building site.program room code) d xs) (fillings_safe d declaration fs declared h may own)
         (λ xs k. node xs k)
       where
-        node : (xs : List Input) → PartsHave site (parts_of declaration.members) xs → Makes site inputs limit sc locals (custom_node (building site.program room code) d xs)
+        node : (xs : List Input) → HaveParts site (parts_of declaration.members) xs → Makes site inputs whole limit sc locals (Fine site inputs whole limit sc locals) (custom_node (building site.program room code) d xs)
         node xs k =
             let b = bodies d declaration declared is in
             let r = parted site declaration.members xs (record { inputs = []; initials = [] }) k in
@@ -305,4 +335,14 @@ module _ (site : Site) (known : Known site) (inputs : List Input) (limit : ℕ) 
             safe_found site inputs limit sc locals _ (slice_get site.program.table.declarations d) declaration (λ x. found (custom_of x xs) (λ y. custom d y)) declared
             (safe_found site inputs limit sc locals _ (custom_of declaration xs) c (λ y. custom d y)
             (ap (λ (o : Option CodeId). custom_with o (parted_from (record { inputs = []; initials = [] }) (slot_kinds declaration.members) xs)) b.1 ∙ ap (custom_with (Some b.0)) r.1)
-            (custom_safe site inputs limit sc locals d c))
+            (custom_safe site inputs whole limit sc locals d c (record {
+              d = d;
+              declaration = declaration;
+              declared = declared;
+              is_view = is;
+              code = b.0;
+              body = b.1;
+              unit = refl;
+              inputs = subst (HaveParts site (inputs_of declaration.members)) (sym r.2.more_inputs) r.2.inputs_have;
+              initials = subst (λ (vs : List Value). HaveParts site (slots_of declaration.members) (map input.Value vs)) (sym r.2.more_initials) r.2.initials_have;
+            })))

@@ -51,15 +51,16 @@ use Rattle.form_rights.specs.Callees.{function_of, named_is, value_kind}
 use Rattle.form_rights.specs.Calls.{same_types, member_scope, entered_good}
 use Rattle.form_rights.specs.Good.{Good}
 use Rattle.meaning_rights.specs.Laws.{terms_have_meanings}
-use Rattle.reader_locals.specs.Alters.{all_of, over_items_alters, item_alters, target_alters}
+use Rattle.swift_core.specs.Alters.{all_of, over_items_alters, item_alters, target_alters}
 use Rattle.reader_locals.specs.AlterLayers.{Beyond}
 use Rattle.reader_locals.specs.Statements.{runs_calm, terms_calm}
 use Rattle.reader_locals.specs.Terms.{entered_calm}
 use Rattle.body_terms.specs.Homes.{Home, Permitted, Permits}
-use Rattle.body_terms.specs.Nodes.{Makes, view_safe, ItemsRight, views_right}
+use Rattle.body_terms.specs.Nodes.{Makes, view_safe, ItemsRight, views_right, AllFine, Fine}
 use Rattle.body_terms.specs.Safe.{Fitting, grown_more, MayStand, safe_of, safe_then, safe_give, safe_given, safe_found, safe_answered, safe_weaker, safe_spend, safe_framed, push_input_sound}
 use Rattle.body_terms.specs.Sound.{sound_weaker}
 use Rattle.body_terms.specs.Terms.{Term, eval_safe, span_safe, PlaceHas, place_with, bound_safe}
+use Rattle.body_terms.specs.Gives.{PartsFit, led_fits, parts_pushed}
 
 some_value : (site : Site) (u : Ty) (o : Option Value) → HasResult site.program.table (Some u) o → GivesSome site (ValueHas site u) o
 some_value site u None h = h
@@ -69,7 +70,7 @@ pub code_there : (site : Site) (n : ℕ) (m : CoreMember) (c : Code) → slice_g
 unfolding code_of
 code_there site n m c there has = main_code site.program.members n m c there has
 
-module _ (site : Site) (known : Known site) (inputs : List Input) (limit : ℕ) (sc : Scope) (locals : List Local) where
+module _ (site : Site) (known : Known site) (inputs : List Input) (whole limit : ℕ) (sc : Scope) (locals : List Local) where
   -- ---- ids
 
   -- A computed property of a data struct or an enum runs with the value as `self`.
@@ -89,7 +90,7 @@ module _ (site : Site) (known : Known site) (inputs : List Input) (limit : ℕ) 
       (all_allowed site own (form_mentions f.main.code.form) (λ j. refl) (λ view b. absurd (cc (view, ap is_view value))))
       c.number (ap (λ (x : CodeId). code_of site.program x.number) (sym code) ∙ code_there site s.code.number m.member f.main.code m.there f.main.has)
 
-  id_safe : (room code : ℕ) (r : IdRule) (t : Ty) (v : Value) → IsId (context site sc) t r → ValueHas site t v → Makes site inputs limit sc locals (id_of (building site.program room code) r v)
+  id_safe : (room code : ℕ) (r : IdRule) (t : Ty) (v : Value) → IsId (context site sc) t r → ValueHas site t v → Makes site inputs whole limit sc locals (λ x. ⊤) (id_of (building site.program room code) r v)
   unfolding id_of computed
   id_safe room code r t v (IsId.by_itself) h = safe_give site inputs limit sc locals _ v tt
   id_safe room code r t v (IsId.by_field {u = u} {n = n} named stands is) h =
@@ -128,36 +129,36 @@ module _ (site : Site) (known : Known site) (inputs : List Input) (limit : ℕ) 
 
   -- ---- items
 
-  module _ (room : ℕ) (right : ItemsRight site inputs (item_means site.program room)) (code : ℕ) (home : Home site.program sc code) (xs : List CoreItem) (l : Local) (t : Ty) (r : IdRule)
+  module _ (room : ℕ) (right : ItemsRight site inputs whole (item_means site.program room)) (code : ℕ) (home : Home site.program whole limit sc code) (xs : List CoreItem) (l : Local) (t : Ty) (r : IdRule)
       (h : Items (context site sc) (locals ++ l ∷ []) xs) (may : Permits site sc (joined (map item_mentions xs))) (own : Beyond limit (all_of (map item_alters xs)))
       (id : IsId (context site sc) t r) (stands : MayStand site inputs limit sc.itself l) where
-    item_content_safe : (x : Input) → Holds site l x → Makes site inputs limit sc locals (item_content (building site.program room code) x xs)
+    item_content_safe : (x : Input) → Holds site l x → Makes site inputs whole limit sc locals (AllFine site inputs whole limit sc locals) (item_content (building site.program room code) x xs)
     unfolding item_content
     item_content_safe x typed =
         safe_framed site inputs limit sc locals _ (push_input x >> views_from (item_means site.program room code) [] xs)
         (λ w fit. push_input_sound site inputs limit sc locals _ l x (views_from (item_means site.program room code) [] xs) w stands typed fit
         (λ u fits. sound_weaker site inputs (views_from (item_means site.program room code) [] xs u)
-        (views_right site inputs room right limit sc code home (locals ++ l ∷ []) xs h may own [] u fits) (λ vs o g. (tt, grown_more site inputs limit locals (l ∷ []) g.1))))
+        (views_right site inputs whole room right limit sc code home (locals ++ l ∷ []) xs h may own [] PartsFit.no_parts u fits) (λ vs o g. (g.0, grown_more site inputs limit locals (l ∷ []) g.1))))
 
-    item_safe : (ids : List Value) (o : Offered) → OfferedHas t l o → Makes site inputs limit sc locals (item_of (building site.program room code) r xs ids o)
+    item_safe : (ids : List Value) (o : Offered) → OfferedHas t l o → Makes site inputs whole limit sc locals (λ x. Fine site inputs whole limit sc locals x.made) (item_of (building site.program room code) r xs ids o)
     unfolding item_of item_node
     item_safe ids o typed =
         safe_spend site inputs limit sc locals _ (id_of (building site.program room code) r o.element >>= λ key. item_node (building site.program room code) ids xs o.holds key)
         (safe_then site inputs limit sc locals _ (id_of (building site.program room code) r o.element) (λ key. item_node (building site.program room code) ids xs o.holds key) (id_safe room code r t o.element id typed.0)
         (λ key k. safe_then site inputs limit sc locals _ (item_content (building site.program room code) o.holds xs) (λ views. view node.Item (input.Value key ∷ []) [] [] views >>= λ e. give (item_with ids key e)) (item_content_safe o.holds typed.1)
-        (λ views y. safe_then site inputs limit sc locals _ (view node.Item (input.Value key ∷ []) [] [] views) (λ e. give (item_with ids key e)) (view_safe site inputs limit sc locals _ _ _ _ _)
-        (λ e z. safe_give site inputs limit sc locals _ (item_with ids key e) tt))))
+        (λ views y. safe_then site inputs limit sc locals _ (view node.Item (input.Value key ∷ []) [] [] views) (λ e. give (item_with ids key e)) (view_safe site inputs whole limit sc locals _ _ _ _ _ tt y)
+        (λ e z. safe_give site inputs limit sc locals _ (item_with ids key e) (led_fits site.program site.types whole _ e z)))))
 
-    items_safe : (os : List Offered) (ids : List Value) (so_far : List Element) → Each (OfferedHas t l) os → Makes site inputs limit sc locals (items_from (building site.program room code) r xs ids so_far os)
+    items_safe : (os : List Offered) (ids : List Value) (so_far : List Element) → Each (OfferedHas t l) os → AllFine site inputs whole limit sc locals so_far → Makes site inputs whole limit sc locals (AllFine site inputs whole limit sc locals) (items_from (building site.program room code) r xs ids so_far os)
     unfolding items_from
-    items_safe [] ids so_far typed = safe_give site inputs limit sc locals _ so_far tt
-    items_safe (o ∷ os) ids so_far typed =
+    items_safe [] ids so_far typed made = safe_give site inputs limit sc locals _ so_far made
+    items_safe (o ∷ os) ids so_far typed made =
         safe_then site inputs limit sc locals _ (item_of (building site.program room code) r xs ids o) (λ item. items_from (building site.program room code) r xs (ids ++ item.id ∷ []) (so_far ++ item.made ∷ []) os) (item_safe ids o typed.0)
-        (λ item k. items_safe os (ids ++ item.id ∷ []) (so_far ++ item.made ∷ []) typed.1)
+        (λ item k. items_safe os (ids ++ item.id ∷ []) (so_far ++ item.made ∷ []) typed.1 (parts_pushed site.program site.types whole so_far item.made made k))
 
-    all_safe : (os : List Offered) → Each (OfferedHas t l) os → Makes site inputs limit sc locals (all_items (building site.program room code) r xs os)
+    all_safe : (os : List Offered) → Each (OfferedHas t l) os → Makes site inputs whole limit sc locals (AllFine site inputs whole limit sc locals) (all_items (building site.program room code) r xs os)
     unfolding all_items
-    all_safe os typed = items_safe os [] [] typed
+    all_safe os typed = items_safe os [] [] typed PartsFit.no_parts
 
   -- Places that are bound stand in a view.
   binds_stand : (target : Target) (t : Ty) (w : World) → Binds (context site sc) locals target t → Fitting site inputs limit sc locals w → is_view sc.itself ≡ true
@@ -177,10 +178,10 @@ module _ (site : Site) (known : Known site) (inputs : List Input) (limit : ℕ) 
       go r u cells (Begins.at_slot is own form) = ap is_view is
       go r u cells (Begins.at_itself is has) = cc
 
-  module _ (room : ℕ) (right : ItemsRight site inputs (item_means site.program room)) (code : ℕ) (home : Home site.program sc code) (xs : List CoreItem) (may : Permits site sc (joined (map item_mentions xs)))
+  module _ (room : ℕ) (right : ItemsRight site inputs whole (item_means site.program room)) (code : ℕ) (home : Home site.program whole limit sc code) (xs : List CoreItem) (may : Permits site sc (joined (map item_mentions xs)))
       (own : Beyond limit (all_of (map item_alters xs))) where
     numbers_safe : (o : Over) → IsRange (context site sc) locals o → Items (context site sc) (locals ++ Local.valued ty.Int ∷ []) xs → Permits site sc (over_items_mentions (over_items.Numbers o)) → Beyond limit (over_items_alters (over_items.Numbers o))
-        → Makes site inputs limit sc locals (over_numbers (building site.program room code) o xs)
+        → Makes site inputs whole limit sc locals (AllFine site inputs whole limit sc locals) (over_numbers (building site.program room code) o xs)
     unfolding over_numbers
     numbers_safe o range h over_may over_own =
         safe_then site inputs limit sc locals _ (spans site.program room o) (λ numbers. all_items (building site.program room code) rule.Itself xs (offered_numbers numbers.count numbers.first))
@@ -188,7 +189,7 @@ module _ (site : Site) (known : Known site) (inputs : List Input) (limit : ℕ) 
         (λ numbers k. all_safe room right code home xs (Local.valued ty.Int) ty.Int rule.Itself h may own IsId.by_itself tt (offered_numbers numbers.count numbers.first) (numbers_have numbers.count numbers.first))
 
     list_safe : (e : Core) (r : IdRule) (l t : Ty) → Term site known inputs limit sc locals e l → element_at (out-Ty l) ≡ Some t → IsId (context site sc) t r → Items (context site sc) (locals ++ Local.valued t ∷ []) xs
-        → Makes site inputs limit sc locals (over_values (building site.program room code) e r xs)
+        → Makes site inputs whole limit sc locals (AllFine site inputs whole limit sc locals) (over_values (building site.program room code) e r xs)
     unfolding over_values
     list_safe e r l t term is id h =
         safe_then site inputs limit sc locals _ (means site.program room e) (λ v. found (parts v) (λ vs. all_items (building site.program room code) r xs (offered_values vs))) (eval_safe site known inputs limit sc locals room e l term)
@@ -197,7 +198,7 @@ module _ (site : Site) (known : Known site) (inputs : List Input) (limit : ℕ) 
         (all_safe room right code home xs (Local.valued t) t r h may own id tt (offered_values y.0) (values_have t y.0 y.2)))
 
     places_safe : (target : Target) (r : IdRule) (l t : Ty) → Binds (context site sc) locals target l → element_at (out-Ty l) ≡ Some t → IsId (context site sc) t r → Items (context site sc) (locals ++ Local.placed t ∷ []) xs
-        → Permits site sc (target_mentions target).mentions → Beyond limit (target_alters target).indexes → Makes site inputs limit sc locals (over_places (building site.program room code) target r xs)
+        → Permits site sc (target_mentions target).mentions → Beyond limit (target_alters target).indexes → Makes site inputs whole limit sc locals (AllFine site inputs whole limit sc locals) (over_places (building site.program room code) target r xs)
     unfolding over_places
     places_safe target r l t binds is id h target_may target_own w fit =
         safe_then site inputs limit sc locals _ (bound (building site.program room code) target) (λ x. found (parts x.value) (λ vs. all_items (building site.program room code) r xs (offered_places x.place 0 vs)))
@@ -207,17 +208,17 @@ module _ (site : Site) (known : Known site) (inputs : List Input) (limit : ℕ) 
         (all_safe room right code home xs (Local.placed t) t r h may own id (binds_stand target l w binds fit) (offered_places x.place 0 y.0) (places_have l t x.place 0 y.0 is k.0 y.2))) w fit
 
     over_safe : (o : ForEachOver) (l : Local) → Repeats (context site sc) locals o l → Items (context site sc) (locals ++ l ∷ []) xs → Permits site sc (over_items_mentions o) → Beyond limit (over_items_alters o)
-        → Makes site inputs limit sc locals (for_each (building site.program room code) o xs)
+        → Makes site inputs whole limit sc locals (Fine site inputs whole limit sc locals) (for_each (building site.program room code) o xs)
     unfolding for_each
     over_safe o l (Repeats.numbers {o = range} is) h over_may over_own =
-        safe_then site inputs limit sc locals _ (over_numbers (building site.program room code) range xs) (λ views. view node.ForEach [] [] [] views) (numbers_safe range is h over_may over_own) (λ views k. view_safe site inputs limit sc locals _ _ _ _ _)
+        safe_then site inputs limit sc locals _ (over_numbers (building site.program room code) range xs) (λ views. view node.ForEach [] [] [] views) (numbers_safe range is h over_may over_own) (λ views y. view_safe site inputs whole limit sc locals _ _ _ _ _ tt y)
     over_safe o l (Repeats.values {c = c} {l = list} {t = t} {i = r} k is id) h over_may over_own =
         safe_then site inputs limit sc locals _ (over_values (building site.program room code) c r xs) (λ views. view node.ForEach [] [] [] views)
-        (list_safe c r list t (k, each_front (Permitted site sc) (core_mentions c) (id_mentions r) over_may, over_own) is id h) (λ views k. view_safe site inputs limit sc locals _ _ _ _ _)
+        (list_safe c r list t (k, each_front (Permitted site sc) (core_mentions c) (id_mentions r) over_may, over_own) is id h) (λ views y. view_safe site inputs whole limit sc locals _ _ _ _ _ tt y)
     over_safe o l (Repeats.places {target = target} {l = list} {t = t} {i = r} binds is id) h over_may over_own =
         safe_then site inputs limit sc locals _ (over_places (building site.program room code) target r xs) (λ views. view node.ForEach [] [] [] views)
-        (places_safe target r list t binds is id h (each_front (Permitted site sc) (target_mentions target).mentions (id_mentions r) over_may) over_own) (λ views k. view_safe site inputs limit sc locals _ _ _ _ _)
+        (places_safe target r list t binds is id h (each_front (Permitted site sc) (target_mentions target).mentions (id_mentions r) over_may) over_own) (λ views y. view_safe site inputs whole limit sc locals _ _ _ _ _ tt y)
 
     pub for_each_safe : (o : ForEachOver) (l : Local) → Repeats (context site sc) locals o l → Items (context site sc) (locals ++ l ∷ []) xs → Permits site sc (over_items_mentions o) → Beyond limit (over_items_alters o)
-        → Makes site inputs limit sc locals (for_each (building site.program room code) o xs)
+        → Makes site inputs whole limit sc locals (Fine site inputs whole limit sc locals) (for_each (building site.program room code) o xs)
     for_each_safe = over_safe

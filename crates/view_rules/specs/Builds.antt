@@ -1,6 +1,6 @@
 -- Parts of a builder. Besides what it becomes, a part gives the blocks of the member: its action blocks and the builders of
 -- its preference readers stand behind those so far, each after those within it.
-use Rattle.std.specs.Prelude.{◌≡◌, ℕ, List, [], ◌∷◌, ◌++◌, length, Option, Some, None, Result, Ok, Err, ⊤}
+use Rattle.std.specs.Prelude.{◌≡◌, ℕ, true, List, [], ◌∷◌, ◌++◌, length, map, drop, Option, Some, None, Result, Ok, Err, ⊤}
 use Rattle.swift_ast.specs.declared.tree.Stmt.{Stmt}
 use Rattle.swift_core.specs.declared.ids.BlockId.{BlockId}
 use Rattle.swift_core.specs.declared.code.Code.{Code}
@@ -9,13 +9,15 @@ use Rattle.swift_core.specs.declared.code.CodeForm.TheVariants as code
 use Rattle.swift_core.specs.declared.item.CoreItem.{CoreItem}
 use Rattle.swift_core.specs.declared.stmt.CoreStmt.{CoreStmt}
 use Rattle.swift_core.specs.declared.ty.Ty.{Ty}
+use Rattle.swift_core.specs.Readers.{reader_keeps}
 use Rattle.swift_core.specs.Uses.{locals_used}
 use Rattle.type_base.specs.declared.fault.Fault.{Fault}
 use Rattle.type_base.specs.declared.fault.Fault.TheVariants.{NotTyped, OutOfMemory}
 use Rattle.type_base.specs.declared.scope.Local.{Local}
 use Rattle.type_base.specs.declared.scope.Scope.{Scope}
 use Rattle.type_base.specs.declared.scope.LocalKind.{LocalKind}
-use Rattle.type_base.specs.Claims.{Reads, Then, and_then, when, reads_then, reads_give, reads_when}
+use Rattle.type_base.specs.Claims.{Reads, Then, and_then, when, reads_then, reads_give, reads_when, bool_is}
+use Rattle.type_base.specs.LocalTypes.{local_type, types_at}
 use Rattle.type_base.specs.Names.{IsNew, is_new, new_decides}
 use Rattle.type_base.specs.Context.{Context}
 use Rattle.type_base.specs.Scopes.{with_local, entered}
@@ -93,9 +95,16 @@ local name t kind = record { name = name; ty = t; kind = kind }
 abbrev pub with_item : Context → Local → Context
 with_item cx l = with_local (entered cx) l
 
--- a piece of code with so many parameters that stands among these locals, after these blocks
-abbrev pub block_of : Blocks → ℕ → ℕ → CodeForm → Code
-block_of bs outer n form = record { outer = outer; kept = locals_used bs outer form; parameters = n; form = form }
+-- A piece of code after these blocks. Of the locals that it begins with, so many stand where it is written, and the others are
+-- its parameters.
+abbrev pub block_of : Blocks → List Local → ℕ → ℕ → CodeForm → Code
+block_of bs locals outer n form = record {
+  outer = outer;
+  kept = locals_used bs outer form;
+  types = types_at locals (locals_used bs outer form) ++ map local_type (drop outer locals);
+  parameters = n;
+  form = form;
+}
 
 -- the place of a block that comes behind these
 abbrev pub next_block : Blocks → BlockId
@@ -108,12 +117,12 @@ added_block bs c = (next_block bs, bs ++ c ∷ [])
 unfoldable pub Action : ℕ → List Stmt → ℕ → BuildRule BlockId
 Action n ss outer cx bs r =
     (body : List CoreStmt) × TypedBlock ss cx body ×
-    (r ≡ added_block bs (block_of bs outer n (code.Statements body)))
+    (r ≡ added_block bs (block_of bs cx.locals outer n (code.Statements body)))
 
 unfoldable pub action : ℕ → List Stmt → ℕ → FindBuild BlockId
 action n ss outer cx bs =
     and_then {B = BlockId × Blocks} (find_block ss cx) (λ body.
-    Some (added_block bs (block_of bs outer n (code.Statements body))))
+    Some (added_block bs (block_of bs cx.locals outer n (code.Statements body))))
 
 -- an action block with two parameters, whose names differ
 unfoldable pub ActsTwo : List Stmt → Local → Local → BuildRule BlockId
@@ -122,16 +131,26 @@ ActsTwo ss l m cx bs r = IsNew m.name (with_item cx l) × Action 2 ss (length cx
 unfoldable pub acts_two : List Stmt → Local → Local → FindBuild BlockId
 acts_two ss l m cx bs = when (is_new m.name (with_item cx l)) (action 2 ss (length cx.locals) (with_local (with_item cx l) m) bs)
 
--- the builder of a preference reader, whose parameter is the value
-unfoldable pub Reader : ItemsRule → List Stmt → Local → BuildRule BlockId
-Reader k ss l cx bs r =
-    (x : List CoreItem × Blocks) × k ss (with_item cx l) bs x ×
-    (r ≡ added_block x.1 (block_of x.1 (length cx.locals) 1 (code.Builder x.0)))
+-- The builder of a preference reader, whose parameter is the last local here; so many locals stand where it is written, and it
+-- alters none of these.
+unfoldable pub ReaderBlock : ItemsRule → List Stmt → ℕ → BuildRule BlockId
+ReaderBlock k ss outer cx bs r =
+    (x : List CoreItem × Blocks) × k ss cx bs x ×
+    ((reader_keeps outer (length x.1) (code.Builder x.0) ≡ true) ×
+    (r ≡ added_block x.1 (block_of x.1 cx.locals outer 1 (code.Builder x.0))))
 
-unfoldable pub reader : FindItems → List Stmt → Local → FindBuild BlockId
-reader f ss l cx bs =
-    and_then {B = BlockId × Blocks} (f ss (with_item cx l) bs) (λ x.
-    Some (added_block x.1 (block_of x.1 (length cx.locals) 1 (code.Builder x.0))))
+unfoldable pub reader_block : FindItems → List Stmt → ℕ → FindBuild BlockId
+reader_block f ss outer cx bs =
+    and_then {B = BlockId × Blocks} (f ss cx bs) (λ x.
+    when (reader_keeps outer (length x.1) (code.Builder x.0)) (
+    Some (added_block x.1 (block_of x.1 cx.locals outer 1 (code.Builder x.0)))))
+
+-- the same with the parameter, which is the value
+abbrev pub Reader : ItemsRule → List Stmt → Local → BuildRule BlockId
+Reader k ss l cx bs r = ReaderBlock k ss (length cx.locals) (with_item cx l) bs r
+
+abbrev pub reader : FindItems → List Stmt → Local → FindBuild BlockId
+reader f ss l cx bs = reader_block f ss (length cx.locals) (with_item cx l) bs
 
 -- ---- laws
 
@@ -143,6 +162,9 @@ pub acts_two_exact : (ss : List Stmt) (l m : Local) → ExactBuild (acts_two ss 
 unfolding acts_two ActsTwo
 acts_two_exact ss l m cx bs = reads_when (new_decides m.name (with_item cx l)) (action_exact 2 ss _ _ bs)
 
+pub reader_block_exact : {f : FindItems} {k : ItemsRule} → ExactItems f k → (ss : List Stmt) (outer : ℕ) → ExactBuild (reader_block f ss outer) (ReaderBlock k ss outer)
+unfolding reader_block ReaderBlock Then
+reader_block_exact h ss outer cx bs = reads_then (h ss cx bs) (λ x. reads_when bool_is (reads_give _))
+
 pub reader_exact : {f : FindItems} {k : ItemsRule} → ExactItems f k → (ss : List Stmt) (l : Local) → ExactBuild (reader f ss l) (Reader k ss l)
-unfolding reader Reader Then
-reader_exact h ss l cx bs = reads_then (h ss _ bs) (λ x. reads_give _)
+reader_exact h ss l cx bs = reader_block_exact h ss (length cx.locals) (with_item cx l) bs

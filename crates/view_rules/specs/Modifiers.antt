@@ -301,7 +301,7 @@ module _ (f : FindItems) (k : ItemsRule) (h : ExactItems f k) where
   reader_call_exact : (name : Modifier) (args : List Arg) (tail : Tail) → ExactBuild (reader_call f name args tail) (ReaderCall k name args tail)
   unfolding reader_call ReaderCall Then
   reader_call_exact name args tail cx bs =
-      reads_then (reads_is _) (λ e. reads_then (reads_is _) (λ key. reads_then (reads_is _) (λ c. reads_then (reader_exact h c.1 _ cx bs) (λ b. reads_give _))))
+      reads_then (reads_is _) (λ e. reads_then (reads_is _) (λ key. reads_then (reads_is _) (λ c. reads_then (reader_exact h c.1 (local c.0 key.1 local_kind.Let) cx bs) (λ b. reads_give _))))
 
   content_exact : (m : Modifier) (args : List Arg) (tail : Tail) → ExactBuild (content_call f m args tail) (ContentCall k m args tail)
   unfolding content_call ContentCall

@@ -5,10 +5,10 @@ use Rattle.std.proofs.Common.{refl, sym, ap, subst, ◌∙◌, arith}
 use Rattle.std.proofs.lemmas.Bool.{ltb-false}
 use Rattle.std.proofs.lemmas.Option.{slice_get_within}
 use Rattle.swift_core.specs.Codes.{code_in, main_of, blocks_of}
-use Rattle.swift_core.specs.Context.{HasMember}
+use Rattle.swift_core.specs.Context.{Context, HasMember}
 use Rattle.swift_core.specs.Mentions.{Mentions, form_mentions}
 use Rattle.swift_core.specs.Programs.{IsProgram, StandsAt, Reaches}
-use Rattle.swift_core.specs.Typing.{IsTypedAt, FitsSignature, stands_in}
+use Rattle.swift_core.specs.Typing.{IsTypedAt, FitsSignature, GivesViews, BlocksStand, itself_in, stands_in}
 use Rattle.swift_core.specs.Uses.{is_write, code_of, writes_cells, calls_of, body_forms, reader_forms, member_writes, member_calls}
 use Rattle.swift_core.specs.declared.code.Code.{Code}
 use Rattle.swift_core.specs.declared.code.CodeForm.{CodeForm}
@@ -16,8 +16,11 @@ use Rattle.swift_core.specs.declared.code.CoreMember.{CoreMember}
 use Rattle.swift_core.specs.declared.ids.CodeId.{CodeId}
 use Rattle.swift_core.specs.declared.mention.Mention.TheVariants as mention
 use Rattle.swift_core.specs.declared.table.Declaration.{Declaration}
+use Rattle.swift_core.specs.declared.table.Kind.{Kind}
 use Rattle.swift_core.specs.declared.table.MemberPlace.{MemberPlace}
+use Rattle.swift_core.specs.declared.table.ParamSignature.{ParamSignature}
 use Rattle.swift_core.specs.declared.table.Signature.{Signature}
+use Rattle.swift_core.specs.declared.table.SignatureForm.TheVariants as form
 use Rattle.swift_core.specs.declared.table.Table.{Table}
 use Rattle.world_fits.specs.Lists.{Each, at_front, some_same}
 use Rattle.world_fits.specs.Sites.{Site, Scope, Allowed, is_view}
@@ -68,6 +71,25 @@ module _ (table : Table) (members : List CoreMember) (program : IsProgram table 
       stands n o k (StandsAt.stands_at {i = i} {place = place} e) number of same =
           let m = has_code i (slice_get_within table.members i place e) in
           typed i place m.0 number m.1 of same (program.typed i place m.0 e m.1)
+
+-- ---- blocks
+
+-- the context of the code of a member that gives views
+abbrev pub views_context : Table → ℕ → Kind → CoreMember → Context
+views_context table d k m = record { table = table; owner = Some d; itself = itself_in k; blocks = m.blocks }
+
+property_blocks : (table : Table) (d : ℕ) (k : Kind) (m : CoreMember) → FitsSignature table d k m form.BuilderProperty → BlocksStand (views_context table d k m)
+property_blocks table d k m (FitsSignature.builder_property begins typed stand) = stand
+
+function_blocks : (table : Table) (d : ℕ) (k : Kind) (m : CoreMember) (ps : List ParamSignature) → FitsSignature table d k m (form.BuilderFunction ps) → BlocksStand (views_context table d k m)
+function_blocks table d k m ps (FitsSignature.builder_function written begins typed stand) = stand
+
+-- each block of a member that gives views stands in it
+pub blocks_stand : (table : Table) (d : ℕ) (k : Kind) (m : CoreMember) (s : Signature) (ps : List ParamSignature) → GivesViews s ps → FitsSignature table d k m s.form → BlocksStand (views_context table d k m)
+blocks_stand table d k m s ps (GivesViews.by_builder_property e) fits = property_blocks table d k m (subst (FitsSignature table d k m) e fits)
+blocks_stand table d k m s ps (GivesViews.by_builder_function {ps = qs} e) fits = function_blocks table d k m qs (subst (FitsSignature table d k m) e fits)
+
+-- ---- code by its number
 
 -- the code that a number below the number of members names
 pub code_is : (members : List CoreMember) (n : ℕ) (m : CoreMember) → slice_get members n ≡ Some m → code_in members n ≡ m.code

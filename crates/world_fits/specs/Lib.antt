@@ -8,3 +8,4 @@ pub mod Cells
 pub mod Places
 pub mod Codes
 pub mod Runs
+pub mod Kept

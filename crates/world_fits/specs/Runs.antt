@@ -3,8 +3,8 @@ use Rattle.std.specs.Prelude.{◌≡◌, ℕ, Bool, false, List, [], ◌∷◌, 
 use Rattle.identity_path.specs.declared.input.Input.{Input}
 use Rattle.identity_path.specs.Cells.{CellMap}
 use Rattle.swift_ast.specs.declared.tree.Binder.{Binder}
-use Rattle.swift_core.specs.Codes.{Parts as Program, code_at}
-use Rattle.swift_core.specs.Context.{Local, Itself, HasMember}
+use Rattle.swift_core.specs.Codes.{Parts as Program, block_in, code_at}
+use Rattle.swift_core.specs.Context.{Local, Itself, HasMember, local_of}
 use Rattle.swift_core.specs.Programs.{Reaches}
 use Rattle.swift_core.specs.Typing.{HasPreference, GivesViews, IsAction, is_value, itself_in, itself_in_function}
 use Rattle.swift_core.specs.declared.code.Code.{Code}
@@ -30,12 +30,6 @@ abbrev pub InputsHave : Table → SlotTypes → List Local → List Input → Ty
 InputsHave table types [] [] = ⊤
 InputsHave table types (l ∷ ls) (x ∷ xs) = InputHas table types l x × InputsHave table types ls xs
 InputsHave table types ls xs = ⊥
-
--- The inputs are those of the locals that are kept, and after them the parameters.
-abbrev pub KeptHave : Table → SlotTypes → List Local → List ℕ → List Ty → List Input → Type 0
-KeptHave table types locals [] parameters xs = InputsHave table types (map Local.valued parameters) xs
-KeptHave table types locals (k ∷ ks) parameters [] = ⊥
-KeptHave table types locals (k ∷ ks) parameters (x ∷ xs) = ((l : Local) × (slice_get locals k ≡ Some l) × InputHas table types l x) × KeptHave table types locals ks parameters xs
 
 -- the code of a view may use the frame of this view
 abbrev pub ViewHas : Table → SlotTypes → Itself → Option ℕ → Frame → Type 0
@@ -80,7 +74,8 @@ pub record EvalFits (p : Program) (n : ℕ) (frame : Frame) (cells : CellMap) : 
 
 -- ---- action blocks
 
--- The condition of the run of an action block: it is a block of a builder, where these locals stand and with parameters of these types.
+-- The condition of the run of an action block: the code with this number is a block of a builder, where these locals stand and with
+-- parameters of these types.
 pub record ExecFits (p : Program) (n : ℕ) (frame : Frame) (cells : CellMap) : Type 0 where
   pub d : ℕ
   pub declaration : Declaration
@@ -94,12 +89,14 @@ pub record ExecFits (p : Program) (n : ℕ) (frame : Frame) (cells : CellMap) : 
   pub block : BlockId
   pub code : Code
   pub is_block : slice_get member.blocks block.number ≡ Some code
+  pub numbered : block_in p.members block.number (Some sign.code.number) ≡ Some n
   pub there : code_at p n ≡ Some code
   pub locals : List Local
   pub parameters : List Ty
   pub action : IsAction (record { table = p.table; owner = Some d; itself = itself_in declaration.kind; blocks = member.blocks }) locals block parameters
-  -- each state slot has one type, and the cells and the frame have what the types say
+  -- Each state slot has one type, and the cells and the frame have what the types say. The locals of the frame are what the code
+  -- says of them.
   pub types : SlotTypes
   pub cells_fit : CellsFit p.table types cells
   pub view_has : ViewHas p.table types (itself_in declaration.kind) (Some d) frame
-  pub locals_have : KeptHave p.table types locals code.kept parameters frame.locals
+  pub locals_have : InputsHave p.table types (map local_of code.types) frame.locals
