@@ -1,4 +1,5 @@
-//! The evaluator: the value of a piece of code, and the run of an action block, over cells.
+//! The evaluator: the value of a piece of code, and the run of an action block, over cells; and the tests whether code may be
+//! run there.
 #![tactic(auto)]
 
 mod inside;
@@ -7,6 +8,7 @@ mod locals;
 mod public;
 mod vacant;
 
+pub use code_tests::{body_fits, eval_fits};
 pub use core_means::{Frame, Origin, Read, Reads};
 pub use eval_places::Setting;
 pub use inside::{block_to, conditions_to, entered_to, hop_to, initial_to, span_to, values_to};

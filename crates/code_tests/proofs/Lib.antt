@@ -1,0 +1,5 @@
+pub mod Blocks
+pub mod Members
+pub mod Tests
+pub mod Units
+pub mod Values

@@ -1,0 +1,3 @@
+pub mod CodeFits
+pub mod Homes
+pub mod Parts

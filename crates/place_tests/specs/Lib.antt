@@ -1,0 +1,4 @@
+pub mod Asked
+pub mod Demands
+pub mod Nested
+pub mod Walks
